@@ -1,0 +1,6 @@
+-- Laws that the proofs of functions cite, by subject.
+pub mod Checks
+pub mod ValidImage
+pub mod BackwardSets
+pub mod AcceptedWords
+pub mod WordTests

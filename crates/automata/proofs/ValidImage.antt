@@ -1,0 +1,188 @@
+-- What an image that no check refuses keeps: its sizes, its spans, its rows; and what reading it answers. Assumes nothing.
+use Prim.Native.Nat.{ℕ, zero, suc, _+_, _-_, _*_, _/_, _%_, _≤_, _<_}
+use mathlib.Core.Path.{_≡_, refl, sym, ap, subst, _∙_}
+use mathlib.Core.Bool.{Bool, true, false}
+use mathlib.Core.List.{List, [], _∷_}
+use mathlib.Core.Logic.{_⊎_, inl, inr}
+use native.Mathlib.Nat.{le-of-eq}
+use native.Mathlib.Omega.{arith}
+use lib.Dec.{T, eqb, ltb, eqb→eq, ltb→lt}
+use borrow.Author.Tests.{eqb-false, ltb-false}
+use lib.ListN.{length}
+use Rattle.lists.specs.Tests.{_and_, _or_, neg}
+use Rattle.lists.specs.Lists.{_∈_, here, there, eachFrom}
+use Rattle.lists.proofs.Tests.{holds, fails, is-false, and-left, and-right, or-left, or-right, neg-neg, fails-neg}
+use Rattle.lists.proofs.Lists.{in-none, in-cases, each-from-at}
+use Rattle.masks.specs.Sets.{within}
+use Rattle.automata.specs.Image.{
+  Row,
+  Valid,
+  statesOf,
+  symbolsOf,
+  rowCountOf,
+  initialOf,
+  finalOf,
+  offsetOf,
+  sizeOf,
+  rowsStart,
+  spanStart,
+  pairHolds,
+  pairsHold,
+  rowAt,
+  rowsFrom,
+  rowsOf,
+  rowHolds,
+  rowsHold,
+  outside,
+  check,
+  checkImage,
+}
+use Rattle.automata.specs.Answers.{headOf, readWith, readImage}
+use Rattle.automata.specs.declared.image.Head.{Head}
+use Rattle.automata.specs.declared.image.Image.{Image}
+use Rattle.automata.specs.declared.image.Image.the-variants as Answer
+
+-- what the checks leave of an image that they do not refuse
+pub record Kept (image : List ℕ) : Type 0 where
+  pub long : 20 ≤ length image
+  pub some-state : 1 ≤ statesOf image
+  pub states-fit : statesOf image ≤ 64
+  pub some-symbol : 1 ≤ symbolsOf image
+  pub symbols-fit : symbolsOf image ≤ 64
+  pub few-rows : rowCountOf image ≤ 4096
+  pub whole : length image ≡ 20 + 8 * symbolsOf image + 9 * rowCountOf image
+  pub initial-within : T (within (statesOf image) (initialOf image))
+  pub final-within : T (within (statesOf image) (finalOf image))
+  pub pairs : T (pairsHold image)
+  pub rows : T (rowsHold image)
+
+-- a check that did not apply
+passed : (b : Bool) (number later : ℕ) → check b (suc number) later ≡ 0 → (T b → ⊥) × (later ≡ 0)
+unfolding check
+passed true number later e = absurd (omega arith)
+passed false number later e = (λ t. t, e)
+
+inside : (number : ℕ) → (T (outside number) → ⊥) → (1 ≤ number) × (number ≤ 64)
+unfolding outside
+inside number f =
+    let n : number ≡ 0 → ⊥ = eqb-false number 0 (is-false _ (λ t. f (or-left _ _ t))) in
+    (omega arith, ltb-false 64 number (is-false _ (λ t. f (or-right _ _ t))))
+
+pub valid-kept : (image : List ℕ) → Valid image → Kept image
+unfolding checkImage
+valid-kept image valid =
+    let p20 = passed _ _ _ valid in
+    let p21 = passed _ _ _ (p20 .1) in
+    let p22 = passed _ _ _ (p21 .1) in
+    let p23 = passed _ _ _ (p22 .1) in
+    let p24 = passed _ _ _ (p23 .1) in
+    let p25 = passed _ _ _ (p24 .1) in
+    let p26 = passed _ _ _ (p25 .1) in
+    let p27 = passed _ _ _ (p26 .1) in
+    record {
+      long = ltb-false _ _ (is-false _ (p20 .0));
+      some-state = inside _ (p21 .0) .0;
+      states-fit = inside _ (p21 .0) .1;
+      some-symbol = inside _ (p22 .0) .0;
+      symbols-fit = inside _ (p22 .0) .1;
+      few-rows = ltb-false _ _ (is-false _ (p23 .0));
+      whole = eqb→eq _ _ (neg-neg _ (p24 .0));
+      initial-within = neg-neg _ (λ t. p25 .0 (or-left _ _ t));
+      final-within = neg-neg _ (λ t. p25 .0 (or-right _ _ t));
+      pairs = neg-neg _ (p26 .0);
+      rows = neg-neg _ (p27 .0);
+    }
+
+module _ (image : List ℕ) (valid : Valid image) where
+  kept : Kept image
+  kept = valid-kept image valid
+
+  pair-at : (s : ℕ) → s < symbolsOf image → T (pairHolds image s)
+  unfolding pairsHold
+  pair-at s l =
+      each-from-at (pairHolds image) (symbolsOf image) 0 (and-left _ _ (kept .pairs)) s (omega arith) (omega arith)
+
+  pub span-begins : (s : ℕ) → s < symbolsOf image → offsetOf image s ≡ spanStart image s
+  unfolding pairHolds
+  span-begins s l = eqb→eq _ _ (and-left _ _ (pair-at s l))
+
+  pub span-nines : (s : ℕ) → s < symbolsOf image → sizeOf image s % 9 ≡ 0
+  unfolding pairHolds
+  span-nines s l = eqb→eq _ _ (and-right _ _ (pair-at s l))
+
+  spans-end : spanStart image (symbolsOf image) ≡ length image
+  unfolding pairsHold
+  spans-end = eqb→eq _ _ (and-right _ _ (kept .pairs))
+
+  span-next : (s : ℕ) → spanStart image (suc s) ≡ offsetOf image s + sizeOf image s
+  unfolding spanStart
+  span-next s = refl
+
+  -- the spans climb: from symbol s on, by the `count` symbols that are left, none begins behind the image's end
+  spans-climb : (count s : ℕ) → s + count ≡ symbolsOf image → spanStart image s ≤ length image
+  spans-climb zero s e = let q : s ≡ symbolsOf image = omega arith in rw q (le-of-eq spans-end)
+  spans-climb (suc count) s e =
+      omega (arith, span-begins s (omega arith), span-next s, spans-climb count (suc s) (omega arith))
+
+  -- a whole number of rows stands before each span
+  spans-nine : (s : ℕ) → s ≤ symbolsOf image → (rowsStart image ≤ spanStart image s) × ((spanStart image s - rowsStart image) % 9 ≡ 0)
+  unfolding spanStart
+  spans-nine zero l = omega arith
+  spans-nine (suc s) l = let h = spans-nine s (omega arith) in omega (arith, span-begins s (omega arith), span-nines s (omega arith))
+
+  module _ (s : ℕ) (symbol : s < symbolsOf image) where
+    pub span-in : offsetOf image s + sizeOf image s ≤ length image
+    span-in = omega (arith, span-next s, spans-climb (symbolsOf image - suc s) (suc s) (omega arith))
+
+    pub pair-in : 28 + 8 * s ≤ length image
+    pair-in = omega (arith, kept .whole)
+
+    -- the row at a place of a span is one of the m rows
+    row-holds : (at : ℕ) → rowsStart image ≤ at → (at - rowsStart image) % 9 ≡ 0 → at + 9 ≤ length image → T (rowHolds image ((at - rowsStart image) / 9))
+    unfolding rowsHold
+    row-holds at l n h =
+        each-from-at (rowHolds image) (rowCountOf image) 0 (kept .rows) ((at - rowsStart image) / 9) (omega arith)
+        (omega (arith, kept .whole))
+
+    row-at-holds : (at : ℕ) → rowsStart image ≤ at → (at - rowsStart image) % 9 ≡ 0 → at + 9 ≤ length image
+        → (rowAt image at .state < statesOf image) × T (within (statesOf image) (rowAt image at .case))
+    unfolding rowHolds
+    row-at-holds at l n h =
+        let e : rowsStart image + 9 * ((at - rowsStart image) / 9) ≡ at = omega arith in
+        let t = row-holds at l n h in
+        (subst (λ (x : ℕ). rowAt image x .state < statesOf image) e (ltb→lt _ _ (and-left _ _ t)), subst (λ (x : ℕ). T (within (statesOf image) (rowAt image x .case))) e (and-right _ _ t))
+
+    rows-hold : (count at : ℕ) → rowsStart image ≤ at → (at - rowsStart image) % 9 ≡ 0 → at + 9 * count ≤ length image → (row : Row) → row ∈ rowsFrom image count at
+        → (row .state < statesOf image) × T (within (statesOf image) (row .case))
+    unfolding rowsFrom
+    rows-hold zero at l n h row m = absurd (in-none m)
+    rows-hold (suc count) at l n h row m =
+        cases (λ k. rows-hold count (at + 9) (omega arith) (omega arith) (omega arith) row k) (in-cases m)
+      where
+        cases : (row ∈ rowsFrom image count (at + 9) → (row .state < statesOf image) × T (within (statesOf image) (row .case)))
+            → (row ≡ rowAt image at) ⊎ row ∈ rowsFrom image count (at + 9) → (row .state < statesOf image) × T (within (statesOf image) (row .case))
+        cases rec (inl e) = rw e (row-at-holds at l n (omega arith))
+        cases rec (inr k) = rec k
+
+    -- each row of a symbol has a state below n, and no bit of its case at n or above
+    pub valid-row : (row : Row) → row ∈ rowsOf image s → (row .state < statesOf image) × T (within (statesOf image) (row .case))
+    unfolding rowsOf
+    valid-row row m =
+        let h = spans-nine s (omega arith) in
+        let e = span-begins s symbol in
+        rows-hold (sizeOf image s / 9) (offsetOf image s) (omega arith) (omega arith) (omega (arith, span-in)) row m
+
+-- reading: the head or the number, by what the checks answer
+pub read-refused : (image : List ℕ) (number : ℕ) → number ≡ checkImage image → (number ≡ 0 → ⊥) → Answer.Refused number ≡ readImage image
+unfolding readImage
+read-refused image zero e n = absurd (n refl)
+read-refused image (suc number) e n = rw (← e)
+
+pub read-valid : (image : List ℕ) (number rows initial finals : ℕ) → number ≡ checkImage image → number ≡ 0 → rows ≡ rowCountOf image → initial ≡ initialOf image → finals ≡ finalOf image
+    → Answer.Valid (record { states = statesOf image; symbols = symbolsOf image; rows = rows; initial = initial; finals = finals }) ≡ readImage image
+unfolding readImage
+read-valid image number rows initial finals e z er ei ef = rw (← e, z, er, ei, ef)
+
+-- an image with no refusing number has its first 20 bytes
+pub head-in : (image : List ℕ) (number at : ℕ) → number ≡ checkImage image → number ≡ 0 → at ≤ 20 → at ≤ length image
+head-in image number at e z l = omega (arith, valid-kept image (sym e ∙ z) .long)

@@ -1,0 +1,139 @@
+-- The word test: what its two loops have found, and the number that each way through it answers. Assumes nothing.
+use Prim.Native.Nat.{ℕ, zero, suc, _+_, _-_, _≤_, _<_}
+use mathlib.Core.Path.{_≡_, refl, sym, ap, _∙_}
+use mathlib.Core.Bool.{Bool, true, false, not}
+use mathlib.Core.List.{List, [], _∷_}
+use native.Mathlib.Omega.{arith}
+use borrow.Author.Tests.{le-ltb, lt-ltb, not-true, not-false}
+use lib.Dec.{T, ltb, ltb→lt}
+use lib.ListN.{length, getD, drop}
+use lib.Seq.{drop-length}
+use Rattle.lists.specs.Tests.{neg}
+use Rattle.lists.specs.Lists.{Each, all}
+use Rattle.lists.proofs.Tests.{holds}
+use Rattle.lists.proofs.Lists.{at-in, drop-first, all-fails, all-holds, all-ends, all-each}
+use Rattle.masks.specs.Sets.{subset}
+use Rattle.automata.specs.Image.{Valid, symbolsOf, initialOf, finalOf, rowsOf, check, checkImage}
+use Rattle.automata.specs.Automaton.{Automaton, automatonOf, backward, takenBack}
+use Rattle.automata.specs.WordTest.{oneIf, accepts, known, testWord, wordTest}
+use Rattle.automata.specs.Answers.{headOf, readWith, readImage}
+use Rattle.automata.specs.declared.image.Head.{Head}
+use Rattle.automata.specs.declared.image.Image.{Image}
+use Rattle.automata.specs.declared.image.Image.the-variants as Answer
+
+-- the loop over the word's symbols, before symbol i
+pub record SymbolsLeft (word : List ℕ) (symbols i : ℕ) : Type 0 where
+  pub bound : i ≤ length word
+  pub rest : known symbols (drop i word) ≡ known symbols word
+
+pub symbols-none : {word : List ℕ} {symbols : ℕ} → SymbolsLeft word symbols 0
+symbols-none = record { bound = omega arith; rest = refl }
+
+module _ {word : List ℕ} {symbols i : ℕ} (left : SymbolsLeft word symbols i) where
+  pub symbol-above : i < length word → symbols ≤ getD word i 0 → false ≡ known symbols word
+  unfolding known
+  symbol-above l h = sym (all-fails (λ s. ltb s symbols) word i l (le-ltb _ _ h)) ∙ left .rest
+
+  pub symbol-below : i < length word → getD word i 0 < symbols → SymbolsLeft word symbols (i + 1)
+  unfolding known
+  symbol-below l h =
+      record { bound = omega arith; rest = sym (all-holds (λ s. ltb s symbols) word i l (lt-ltb _ _ h)) ∙ left .rest }
+
+  pub symbols-end : length word ≤ i → true ≡ known symbols word
+  unfolding known
+  symbols-end l = sym (all-ends (λ s. ltb s symbols) word i l) ∙ left .rest
+
+-- the loop that takes a case back, with the first i symbols still to go
+pub record TakenFrom (image word : List ℕ) (X i case : ℕ) : Type 0 where
+  pub bound : i ≤ length word
+  pub taken : case ≡ takenBack (automatonOf image) (drop i word) X
+
+pub taken-none : {image word : List ℕ} {X : ℕ} → TakenFrom image word X (length word) X
+unfolding takenBack
+taken-none {image} {word} {X} = record { bound = omega arith; taken = ap (λ (w : List ℕ). takenBack (automatonOf image) w X) (sym (drop-length word)) }
+
+module _ {image word : List ℕ} {X i case : ℕ} (from : TakenFrom image word X i case) where
+  pub symbol-known : Each (λ s. s < symbolsOf image) word → 0 < i → getD word (i - 1) 0 < symbolsOf image
+  symbol-known symbols h = symbols (getD word (i - 1) 0) (at-in word (i - 1) (omega (arith, from .bound)))
+
+  pub taken-more : (set : ℕ) → 0 < i → set ≡ backward (rowsOf image (getD word (i - 1) 0)) case → TakenFrom image word X (i - 1) set
+  unfolding takenBack
+  taken-more set h e =
+      let next : i - 1 + 1 ≡ i = omega arith in
+      record {
+        bound = omega (arith, from .bound);
+        taken = e ∙ rw (drop-first word (i - 1) (omega (arith, from .bound)), next, from .taken);
+      }
+
+  pub taken-end : i ≤ 0 → case ≡ takenBack (automatonOf image) word X
+  taken-end h = let e : i ≡ 0 = omega arith in from .taken ∙ ap (λ (k : ℕ). takenBack (automatonOf image) (drop k word) X) e
+
+-- what the answer of the reader says of the checks
+is-valid : (image : List ℕ) (number : ℕ) (head : Head) → readWith image number ≡ Answer.Valid head → (number ≡ 0) × (head ≡ headOf image)
+unfolding readWith
+is-valid image zero head e = (refl, cc)
+is-valid image (suc number) head e = let z : _≡_ {A = ℕ} 0 1 = cc in absurd (omega arith)
+
+is-refused : (image : List ℕ) (number refused : ℕ) → readWith image number ≡ Answer.Refused refused → (number ≡ refused) × (0 < number)
+unfolding readWith
+is-refused image zero refused e = let z : _≡_ {A = ℕ} 0 1 = cc in absurd (omega arith)
+is-refused image (suc number) refused e = (cc, omega arith)
+
+module _ (image : List ℕ) (answer : Image) (read : answer ≡ readImage image) where
+  module _ (head : Head) (e : answer ≡ Answer.Valid head) where
+    pub answer-valid : Valid image
+    unfolding readImage
+    answer-valid = is-valid image (checkImage image) head (sym read ∙ e) .0
+
+    pub answer-head : head ≡ headOf image
+    unfolding readImage
+    answer-head = is-valid image (checkImage image) head (sym read ∙ e) .1
+
+  pub answer-refused : (number : ℕ) → answer ≡ Answer.Refused number → number ≡ checkImage image
+  unfolding readImage
+  answer-refused number e = sym (is-refused image (checkImage image) number (sym read ∙ e) .0)
+
+-- the answers of the word test
+module _ (image word : List ℕ) (answer : Image) (read : answer ≡ readImage image) where
+  pub test-refused : (number : ℕ) → answer ≡ Answer.Refused number → number ≡ wordTest image word
+  unfolding wordTest testWord readImage
+  test-refused number e = at (checkImage image) (is-refused image (checkImage image) number (sym read ∙ e))
+    where
+      at : (checked : ℕ) → (checked ≡ number) × (0 < checked) → number ≡ testWord image word checked
+      at zero h = absurd (omega arith)
+      at (suc checked) h = sym (h .0)
+
+  module _ (head : Head) (e : answer ≡ Answer.Valid head) (below : Bool) (all-below : below ≡ known (head .symbols) word) where
+    tested : wordTest image word ≡ check (neg below) 32 (oneIf (accepts (automatonOf image) word))
+    unfolding wordTest testWord
+    tested =
+        let k : head .symbols ≡ symbolsOf image = ap (λ (h : Head). h .symbols) (answer-head image answer read head e) in
+        rw (answer-valid image answer read head e, all-below, k)
+
+    pub test-unknown : not below ≡ true → 32 ≡ wordTest image word
+    unfolding check neg
+    test-unknown t = sym (tested ∙ rw (not-true below t))
+
+    module _ (known : not below ≡ false) where
+      pub word-symbols : Each (λ s. s < symbolsOf image) word
+      unfolding known
+      word-symbols s m =
+          let k : head .symbols ≡ symbolsOf image = ap (λ (h : Head). h .symbols) (answer-head image answer read head e) in
+          let t : T (all (λ s. ltb s (head .symbols)) word) = holds (sym all-below ∙ not-false below known) in
+          rw (← k) (ltb→lt s (head .symbols) (all-each (λ s. ltb s (head .symbols)) word t s m))
+
+      module _ (back : ℕ) (taken : back ≡ takenBack (automatonOf image) word (head .finals)) (inside : Bool) (test : inside ≡ subset (head .initial) back) where
+        answered : wordTest image word ≡ oneIf inside
+        unfolding check neg accepts
+        answered =
+            let i : head .initial ≡ initialOf image = ap (λ (h : Head). h .initial) (answer-head image answer read head e) in
+            let f : head .finals ≡ finalOf image = ap (λ (h : Head). h .finals) (answer-head image answer read head e) in
+            tested ∙ rw (not-false below known, test, taken, i, f)
+
+        pub test-accepts : inside ≡ true → 1 ≡ wordTest image word
+        unfolding oneIf
+        test-accepts t = sym (answered ∙ rw t)
+
+        pub test-rejects : inside ≡ false → 0 ≡ wordTest image word
+        unfolding oneIf
+        test-rejects t = sym (answered ∙ rw t)

@@ -1,0 +1,56 @@
+use borrow.Author.Needs.{needs}
+use Prim.Native.Nat.{_-_}
+use lib.ListN.{length}
+use Rattle.automata.proofs.WordTests.{SymbolsLeft, symbols-none, symbol-above, symbol-below, symbols-end}
+use Rattle.automata.proofs.word.symbols_below.Statement.{statement}
+use Rattle.automata.proofs.word.symbols_below.Tie as tie
+use Rattle.automata.proofs.word.symbols_below.Reads as reads
+use Rattle.automata.proofs.word.symbols_below.Lts as lts
+
+abbrev Inv-loop : tie.InvT-loop
+Inv-loop word symbols i₀ i = SymbolsLeft word symbols i
+
+abbrev μ-loop : tie.MeasureT-loop
+μ-loop word symbols i₀ i = length word - i
+
+-- src/word.rt:19:5
+loop-holds : tie.Need-loop-holds Inv-loop μ-loop
+loop-holds c = search (symbols-none, needs)
+
+-- src/word.rt:20:23
+shared-slice-read-if1 : tie.Need-shared-slice-read-if1 Inv-loop μ-loop
+shared-slice-read-if1 c = search needs
+
+-- src/word.rt:21:13
+returns : tie.Need-returns Inv-loop μ-loop
+returns c = search (symbol-above, needs)
+
+-- src/word.rt:23:9
+add-i : tie.Need-add-i Inv-loop μ-loop
+add-i c = search needs
+
+-- src/word.rt:19:5
+loop-less : tie.Need-loop-less Inv-loop μ-loop
+loop-less c = search needs
+
+-- src/word.rt:19:5
+loop-again : tie.Need-loop-again Inv-loop μ-loop
+loop-again c = search (symbol-below, needs)
+
+-- src/word.rt:15:1
+returns-2 : tie.Need-returns-2 Inv-loop μ-loop
+returns-2 c = search (symbols-end, needs)
+
+pub symbols-below-spec : {M : Type 1} → statement M
+symbols-below-spec =
+    tie.close
+    (tie.spec
+    Inv-loop
+    μ-loop
+    loop-holds
+    shared-slice-read-if1
+    returns
+    add-i
+    loop-less
+    loop-again
+    returns-2)

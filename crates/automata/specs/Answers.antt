@@ -1,0 +1,26 @@
+-- What reading an image answers, and 01's number and values for each of its cases. Assumes nothing: these are definitions.
+use Prim.Native.Nat.{ℕ, zero, suc}
+use mathlib.Core.List.{List, [], _∷_}
+use Rattle.automata.specs.Image.{statesOf, symbolsOf, rowCountOf, initialOf, finalOf, checkImage}
+use Rattle.automata.specs.declared.image.Head.{Head}
+use Rattle.automata.specs.declared.image.Image.{Image}
+use Rattle.automata.specs.declared.image.Image.the-variants.{Valid, Refused}
+
+-- the head that the image's first 20 bytes say
+abbrev pub headOf : List ℕ → Head
+headOf image = record {
+  states = statesOf image;
+  symbols = symbolsOf image;
+  rows = rowCountOf image;
+  initial = initialOf image;
+  finals = finalOf image;
+}
+
+-- the head where no check applies, else the refusing number
+unfoldable pub readWith : List ℕ → ℕ → Image
+readWith image zero = Valid (headOf image)
+readWith image (suc number) = Refused (suc number)
+
+unfoldable pub readImage : List ℕ → Image
+unfolding readWith
+readImage image = readWith image (checkImage image)

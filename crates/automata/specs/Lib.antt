@@ -1,0 +1,6 @@
+pub mod Bytes
+pub mod Image
+pub mod Automaton
+pub mod Acceptance
+pub mod WordTest
+pub mod Answers

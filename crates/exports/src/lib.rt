@@ -1,0 +1,35 @@
+// The library's functions for C and Rust, as include/afa.h declares them.
+use automata::image::Image;
+ghost use mathlib.Core.Path.{_≡_};
+ghost use Rattle.automata.specs.Answers.{readImage};
+ghost use Rattle.automata.specs.WordTest.{wordTest};
+ghost use Rattle.exports.specs.Interface.{imageNumber, headAfter};
+
+// 0, and n, k, m, I and F in `head`; or the refusing number, and `head` as it was.
+#[no_mangle]
+pub extern "C" fn afa_read(image: &[u8], head: &mut [u64; 5]) -> u64
+    ensures number { λ r. ⌜ r ≡ imageNumber (readImage (now (image .entry))) ⌝ }
+    ensures values { λ r. ⌜ now (head .exit) ≡ headAfter (now (head .entry)) (readImage (now (image .entry))) ⌝ }
+{
+    match automata::image::read_image(image) {
+        Image::Refused(number) => number as u64,
+        Image::Valid(found) => {
+            *head = [
+                found.states as u64,
+                found.symbols as u64,
+                found.rows as u64,
+                found.initial,
+                found.finals,
+            ];
+            0
+        }
+    }
+}
+
+// 1 where the word is accepted, 0 where it is not; or the number under which the image or the word is refused.
+#[no_mangle]
+pub extern "C" fn afa_accepts(image: &[u8], word: &[u8]) -> u64
+    ensures { λ r. ⌜ r ≡ wordTest (now (image .entry)) (now (word .entry)) ⌝ }
+{
+    automata::word::word_test(image, word)
+}

@@ -1,0 +1,3 @@
+-- Laws of joined tests and of lists.
+pub mod Tests
+pub mod Lists

@@ -1,0 +1,231 @@
+-- The laws of membership, of tests over lists and numbers, and of keeping. Assumes nothing.
+use Prim.Native.Nat.{ℕ, zero, suc, _+_, _-_, _≤_, _<_}
+use mathlib.Core.Path.{_≡_, refl, sym, ap, subst, _∙_}
+use mathlib.Core.Bool.{Bool, true, false}
+use mathlib.Core.List.{List, [], _∷_, _++_}
+use mathlib.Core.Logic.{_⊎_, inl, inr}
+use mathlib.Core.Option.{Option, none, some}
+use native.Mathlib.Decide.{ℕ-discrete}
+use native.Mathlib.Numerals.{add-one}
+use native.Mathlib.Omega.{arith}
+use lib.Dec.{T}
+use lib.ListN.{length, getD, drop, drop-of-length-le}
+use lib.Seq.{drop-cons}
+use Rattle.lists.specs.Tests.{_and_, _or_, neg, choose}
+use Rattle.lists.specs.Lists.{_∈_, here, there, Each, any, all, keep, firstOf, firstFrom, eachFrom}
+use Rattle.lists.proofs.Tests.{holds, fails, and-left, and-right, and-both, or-cases, or-left, or-right, neg-fails, fails-neg, decide}
+
+module _ {A : Type 0} where
+  pub in-none : {x : A} → x ∈ [] → ⊥
+  in-none m = elim m [ ]
+
+  pub in-cases : {x y : A} {l : List A} → x ∈ (y ∷ l) → (x ≡ y) ⊎ x ∈ l
+  in-cases (here e) = inl e
+  in-cases (there m) = inr m
+
+  -- ++
+  pub in-left : {x : A} {a : List A} (b : List A) → x ∈ a → x ∈ (a ++ b)
+  in-left b (here e) = here e
+  in-left b (there m) = there (in-left b m)
+
+  pub in-right : {x : A} (a : List A) {b : List A} → x ∈ b → x ∈ (a ++ b)
+  in-right [] m = m
+  in-right (y ∷ a) m = there (in-right a m)
+
+  pub in-either : {x : A} (a b : List A) → x ∈ (a ++ b) → x ∈ a ⊎ x ∈ b
+  in-either [] b m = inr m
+  in-either {x} (y ∷ a) b m = at (λ h. in-either a b h) (in-cases m)
+    where
+      at : (x ∈ (a ++ b) → x ∈ a ⊎ x ∈ b) → (x ≡ y) ⊎ x ∈ (a ++ b) → x ∈ (y ∷ a) ⊎ x ∈ b
+      at rec (inl e) = inl (here e)
+      at rec (inr h) = up (rec h)
+        where
+          up : x ∈ a ⊎ x ∈ b → x ∈ (y ∷ a) ⊎ x ∈ b
+          up (inl k) = inl (there k)
+          up (inr k) = inr k
+
+  -- any: the test holds of an element of the list
+  pub record Some (test : A → Bool) (l : List A) : Type 0 where
+    pub element : A
+    pub listed : element ∈ l
+    pub passes : T (test element)
+
+  pub any-some : (test : A → Bool) (l : List A) → T (any test l) → Some test l
+  unfolding any
+  any-some test [] t = absurd t
+  any-some test (x ∷ l) t = at (λ u. any-some test l u) (or-cases _ _ t)
+    where
+      at : (T (any test l) → Some test l) → T (test x) ⊎ T (any test l) → Some test (x ∷ l)
+      at rec (inl u) = record { element = x; listed = here refl; passes = u }
+      at rec (inr u) = let r = rec u in record { element = r .element; listed = there (r .listed); passes = r .passes }
+
+  pub some-any : (test : A → Bool) (l : List A) (x : A) → x ∈ l → T (test x) → T (any test l)
+  unfolding any
+  some-any test [] x m t = absurd (in-none m)
+  some-any test (y ∷ l) x m t = at (λ h. some-any test l x h t) (in-cases m)
+    where
+      at : (x ∈ l → T (any test l)) → (x ≡ y) ⊎ x ∈ l → T (test y or any test l)
+      at rec (inl e) = or-left _ _ (rw e at t)
+      at rec (inr h) = or-right _ _ (rec h)
+
+  pub all-each : (test : A → Bool) (l : List A) → T (all test l) → Each (λ x. T (test x)) l
+  unfolding all
+  all-each test [] t x m = absurd (in-none m)
+  all-each test (y ∷ l) t x m = at (all-each test l (and-right _ _ t) x) (in-cases m)
+    where
+      at : (x ∈ l → T (test x)) → (x ≡ y) ⊎ x ∈ l → T (test x)
+      at rec (inl e) = rw e (and-left _ _ t)
+      at rec (inr h) = rec h
+
+  pub each-all : (test : A → Bool) (l : List A) → Each (λ x. T (test x)) l → T (all test l)
+  unfolding all
+  each-all test [] f = tt
+  each-all test (y ∷ l) f = and-both _ _ (f y (here refl)) (each-all test l (λ x m. f x (there m)))
+
+  -- an element that fails the test, where not all pass it
+  pub record Fails (test : A → Bool) (l : List A) : Type 0 where
+    pub element : A
+    pub listed : element ∈ l
+    pub fails : T (test element) → ⊥
+
+  pub all-or-one : (test : A → Bool) (l : List A) → T (all test l) ⊎ Fails test l
+  unfolding all
+  all-or-one test [] = inl tt
+  all-or-one test (y ∷ l) = at (decide (test y)) (all-or-one test l)
+    where
+      at : T (test y) ⊎ (T (test y) → ⊥) → T (all test l) ⊎ Fails test l → T (test y and all test l) ⊎ Fails test (y ∷ l)
+      at (inl t) (inl r) = inl (and-both _ _ t r)
+      at (inl t) (inr r) = inr (record { element = r .element; listed = there (r .listed); fails = r .fails })
+      at (inr f) r = inr (record { element = y; listed = here refl; fails = f })
+
+  -- keep: exactly the elements for which the test holds
+  pub keep-in : (test : A → Bool) (l : List A) {x : A} → x ∈ keep test l → x ∈ l × T (test x)
+  unfolding keep choose
+  keep-in test [] m = absurd (in-none m)
+  keep-in test (y ∷ l) {x} m = at (λ h. keep-in test l h) (test y) refl m
+    where
+      at : (x ∈ keep test l → x ∈ l × T (test x)) → (b : Bool) → test y ≡ b → x ∈ choose b (y ∷ keep test l) (keep test l) → x ∈ (y ∷ l) × T (test x)
+      at rec true e h = pick (in-cases h)
+        where
+          pick : (x ≡ y) ⊎ x ∈ keep test l → x ∈ (y ∷ l) × T (test x)
+          pick (inl q) = (here q, rw q (holds e))
+          pick (inr k) = let r = rec k in (there (r .0), r .1)
+      at rec false e h = let r = rec h in (there (r .0), r .1)
+
+  pub in-keep : (test : A → Bool) (l : List A) {x : A} → x ∈ l → T (test x) → x ∈ keep test l
+  unfolding keep choose
+  in-keep test [] m t = absurd (in-none m)
+  in-keep test (y ∷ l) {x} m t = at (λ h. in-keep test l h t) (test y) refl (in-cases m)
+    where
+      at : (x ∈ l → x ∈ keep test l) → (b : Bool) → test y ≡ b → (x ≡ y) ⊎ x ∈ l → x ∈ choose b (y ∷ keep test l) (keep test l)
+      at rec true e (inl q) = here q
+      at rec true e (inr h) = there (rec h)
+      at rec false e (inl q) = absurd (fails e (rw q at t))
+      at rec false e (inr h) = rec h
+
+  pub keep-length : (test : A → Bool) (l : List A) → length (keep test l) ≤ length l
+  unfolding keep choose
+  keep-length test [] = omega arith
+  keep-length test (y ∷ l) = at (test y) (keep-length test l)
+    where
+      at : (b : Bool) → length (keep test l) ≤ length l → length (choose b (y ∷ keep test l) (keep test l)) ≤ length (y ∷ l)
+      at true h = omega arith
+      at false h = omega arith
+
+  -- firstOf: none has the test, or one of the list's elements has it
+  pub first-of-none : (test : A → Bool) (l : List A) → firstOf test l ≡ none → Each (λ x. T (test x) → ⊥) l
+  unfolding firstOf choose
+  first-of-none test [] e x m t = in-none m
+  first-of-none test (y ∷ l) e x m t = at (λ q h. first-of-none test l q x h t) (test y) refl e (in-cases m)
+    where
+      at : (firstOf test l ≡ none → x ∈ l → ⊥) → (b : Bool) → test y ≡ b → choose b (some y) (firstOf test l) ≡ none → (x ≡ y) ⊎ x ∈ l → ⊥
+      at rec true q e′ c = let z : _≡_ {A = ℕ} 0 1 = cc in omega arith
+      at rec false q e′ (inl p) = fails q (rw p at t)
+      at rec false q e′ (inr h) = rec e′ h
+
+  pub first-of-some : (test : A → Bool) (l : List A) {x : A} → firstOf test l ≡ some x → x ∈ l × T (test x)
+  unfolding firstOf choose
+  first-of-some test [] e = let z : _≡_ {A = ℕ} 0 1 = cc in absurd (omega arith)
+  first-of-some test (y ∷ l) {x} e = at (λ q. first-of-some test l q) (test y) refl e
+    where
+      at : (firstOf test l ≡ some x → x ∈ l × T (test x)) → (b : Bool) → test y ≡ b → choose b (some y) (firstOf test l) ≡ some x → x ∈ (y ∷ l) × T (test x)
+      at rec true q e′ = let p : y ≡ x = cc in (here (sym p), rw (← p) (holds q))
+      at rec false q e′ = let r = rec e′ in (there (r .0), r .1)
+
+-- firstFrom: none of the numbers has the test, or the answer is one that has it
+pub first-from-none : (test : ℕ → Bool) (count start : ℕ) → firstFrom test count start ≡ none → (s : ℕ) → start ≤ s → s < start + count → T (test s) → ⊥
+unfolding firstFrom choose
+first-from-none test zero start e s l h t = omega arith
+first-from-none test (suc count) start e s l h t = at (λ q k. first-from-none test count (suc start) q s k (omega arith) t) (test start) refl e
+  where
+    at : (firstFrom test count (suc start) ≡ none → suc start ≤ s → ⊥) → (b : Bool) → test start ≡ b → choose b (some start) (firstFrom test count (suc start)) ≡ none → ⊥
+    at rec true q e′ = let z : _≡_ {A = ℕ} 0 1 = cc in omega arith
+    at rec false q e′ = near (ℕ-discrete start s)
+      where
+        near : Dec (start ≡ s) → ⊥
+        near (yes p) = fails q (rw p t)
+        near (no p) = rec e′ (omega arith)
+
+pub first-from-some : (test : ℕ → Bool) (count start : ℕ) {s : ℕ} → firstFrom test count start ≡ some s → (start ≤ s) × (s < start + count) × T (test s)
+unfolding firstFrom choose
+first-from-some test zero start e = let z : _≡_ {A = ℕ} 0 1 = cc in absurd (omega arith)
+first-from-some test (suc count) start {s} e = at (λ q. first-from-some test count (suc start) q) (test start) refl e
+  where
+    at : (firstFrom test count (suc start) ≡ some s → (suc start ≤ s) × (s < suc start + count) × T (test s)) → (b : Bool) → test start ≡ b
+        → choose b (some start) (firstFrom test count (suc start)) ≡ some s → (start ≤ s) × (s < start + suc count) × T (test s)
+    at rec true q e′ = let p : start ≡ s = cc in (omega arith, omega arith, rw (← p) (holds q))
+    at rec false q e′ = let r = rec e′ in (omega arith, omega arith, r .2)
+
+-- eachFrom: the test holds of each of the numbers
+pub each-from-at : (test : ℕ → Bool) (count start : ℕ) → T (eachFrom test count start) → (s : ℕ) → start ≤ s → s < start + count → T (test s)
+unfolding eachFrom
+each-from-at test zero start t s l h = absurd (omega arith)
+each-from-at test (suc count) start t s l h = near (λ k. each-from-at test count (suc start) (and-right _ _ t) s k (omega arith)) (ℕ-discrete start s)
+  where
+    near : (suc start ≤ s → T (test s)) → Dec (start ≡ s) → T (test s)
+    near rec (yes p) = rw (← p) (and-left _ _ t)
+    near rec (no p) = rec (omega arith)
+
+pub at-each-from : (test : ℕ → Bool) (count start : ℕ) → ((s : ℕ) → start ≤ s → s < start + count → T (test s)) → T (eachFrom test count start)
+unfolding eachFrom
+at-each-from test zero start f = tt
+at-each-from test (suc count) start f =
+    and-both _ _ (f start (omega arith) (omega arith)) (at-each-from test count (suc start) (λ s l h. f s (omega arith) (omega arith)))
+
+-- a loop over the numbers below a bound, by what remains of it at number s: the test fails there, it holds there, or nothing remains
+module _ (test : ℕ → Bool) (bound s : ℕ) where
+  pub each-from-fails : s < bound → test s ≡ false → eachFrom test (bound - s) s ≡ false
+  unfolding eachFrom _and_
+  each-from-fails l e = let c : bound - s ≡ suc (bound - (s + 1)) = omega arith in rw (c, e)
+
+  pub each-from-holds : s < bound → test s ≡ true → eachFrom test (bound - s) s ≡ eachFrom test (bound - (s + 1)) (s + 1)
+  unfolding eachFrom _and_
+  each-from-holds l e = let c : bound - s ≡ suc (bound - (s + 1)) = omega arith in rw (c, e, add-one)
+
+  pub each-from-ends : bound ≤ s → eachFrom test (bound - s) s ≡ true
+  unfolding eachFrom
+  each-from-ends l = let c : bound - s ≡ 0 = omega arith in rw c
+
+-- an element by its place
+pub at-in : (l : List ℕ) (i : ℕ) → i < length l → getD l i 0 ∈ l
+at-in [] i h = absurd (omega arith)
+at-in (x ∷ l) zero h = here refl
+at-in (x ∷ l) (suc i) h = there (at-in l i (omega arith))
+
+-- what remains of a list from a place on
+pub drop-first : (l : List ℕ) (i : ℕ) → i < length l → drop i l ≡ getD l i 0 ∷ drop (i + 1) l
+drop-first l i h = drop-cons l i 0 h ∙ ap (λ (k : ℕ). getD l i 0 ∷ drop k l) (sym (add-one i))
+
+-- a loop over a list, by what remains of it at place i: the test fails there, it holds there, or nothing remains
+module _ (test : ℕ → Bool) (l : List ℕ) (i : ℕ) where
+  pub all-fails : i < length l → test (getD l i 0) ≡ false → all test (drop i l) ≡ false
+  unfolding all _and_
+  all-fails h e = rw (drop-first l i h, e)
+
+  pub all-holds : i < length l → test (getD l i 0) ≡ true → all test (drop i l) ≡ all test (drop (i + 1) l)
+  unfolding all _and_
+  all-holds h e = rw (drop-first l i h, e)
+
+  pub all-ends : length l ≤ i → all test (drop i l) ≡ true
+  unfolding all
+  all-ends h = rw (drop-of-length-le l h)

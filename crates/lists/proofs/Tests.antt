@@ -1,0 +1,84 @@
+-- What is known of a joined test, as facts: `T b` is the fact that the test b holds. Assumes nothing.
+use mathlib.Core.Path.{_≡_, refl, sym, subst}
+use mathlib.Core.Bool.{Bool, true, false, not}
+use mathlib.Core.Logic.{_⊎_, inl, inr}
+use lib.Dec.{T}
+use Rattle.lists.specs.Tests.{_and_, _or_, neg, choose}
+
+-- a test's value as a fact, and back
+pub holds : {b : Bool} → b ≡ true → T b
+holds e = rw e tt
+
+pub fails : {b : Bool} → b ≡ false → T b → ⊥
+fails e t = rw e at t
+
+pub is-true : (b : Bool) → T b → b ≡ true
+is-true true t = refl
+is-true false t = absurd t
+
+pub is-false : (b : Bool) → (T b → ⊥) → b ≡ false
+is-false true f = absurd (f tt)
+is-false false f = refl
+
+pub decide : (b : Bool) → T b ⊎ (T b → ⊥)
+decide true = inl tt
+decide false = inr (λ t. t)
+
+pub and-left : (a b : Bool) → T (a and b) → T a
+unfolding _and_
+and-left true b t = tt
+and-left false b t = t
+
+pub and-right : (a b : Bool) → T (a and b) → T b
+unfolding _and_
+and-right true b t = t
+and-right false b t = absurd t
+
+pub and-both : (a b : Bool) → T a → T b → T (a and b)
+unfolding _and_
+and-both true b s t = t
+and-both false b s t = s
+
+pub or-cases : (a b : Bool) → T (a or b) → T a ⊎ T b
+unfolding _or_
+or-cases true b t = inl tt
+or-cases false b t = inr t
+
+pub or-left : (a b : Bool) → T a → T (a or b)
+unfolding _or_
+or-left true b t = tt
+or-left false b t = absurd t
+
+pub or-right : (a b : Bool) → T b → T (a or b)
+unfolding _or_
+or-right true b t = tt
+or-right false b t = t
+
+pub neg-fails : (b : Bool) → T (neg b) → T b → ⊥
+unfolding neg
+neg-fails true s t = s
+neg-fails false s t = t
+
+pub fails-neg : (b : Bool) → (T b → ⊥) → T (neg b)
+unfolding neg
+fails-neg true f = f tt
+fails-neg false f = tt
+
+pub neg-neg : (b : Bool) → (T (neg b) → ⊥) → T b
+unfolding neg
+neg-neg true f = tt
+neg-neg false f = f tt
+
+pub neg-is-not : (b : Bool) → not b ≡ neg b
+unfolding neg
+neg-is-not true = refl
+neg-is-not false = refl
+
+-- a choice, by its test
+pub choose-true : {A : Type 0} {b : Bool} (x y : A) → b ≡ true → choose b x y ≡ x
+unfolding choose
+choose-true x y e = rw e
+
+pub choose-false : {A : Type 0} {b : Bool} (x y : A) → b ≡ false → choose b x y ≡ y
+unfolding choose
+choose-false x y e = rw e

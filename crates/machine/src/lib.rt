@@ -1,0 +1,1 @@
+// No code: the promises, and what they are proved from.

@@ -1,0 +1,173 @@
+-- The laws of sets of states, for every number of states at once. Each says a set by its members or a test by what it means. Assumes nothing.
+use Prim.Native.Nat.{ℕ, zero, suc, _+_, _-_, _*_, _/_, _%_, _^_, _≤_, _<_, min, max}
+use mathlib.Core.Path.{_≡_, refl, sym, ap, subst, _∙_}
+use mathlib.Core.Bool.{Bool, true, false}
+use mathlib.Core.Logic.{_⊎_, inl, inr, _↔_}
+use native.Mathlib.Nat.{one-mul, mod-eq-of-lt, lt-of-lt-of-le}
+use native.Mathlib.Decide.{ℕ-discrete, decLe}
+use native.Mathlib.Omega.{arith}
+use borrow.Author.Tests.{le-leb, lt-ltb}
+use lib.Bits.{bitAnd, bitOr, and-comm, and-mask}
+use lib.Dec.{T, eqb, leb, ltb, eqb→eq, eqb-refl, ltb→lt, lt→ltb, leb·suc-suc}
+use lib.Pow.{pow-lt, pow-mono, suc-ones, ones-split, ones-lt, high}
+use Rattle.masks.specs.Sets.{digit, Member, member, subset, union, single, full, within}
+use Rattle.masks.proofs.Digits.{digit-and, digit-or, digit-zero, same-digits, digit-power-self, digit-power-other, digit-above, below-power}
+
+equal-test : (a b : ℕ) → a ≡ b → T (eqb a b)
+equal-test a b e = subst (λ (x : ℕ). T (eqb a x)) e (eqb-refl a)
+
+-- member: the test says whether the state is in the set
+pub member-means : (q set : ℕ) → T (member q set) ↔ Member q set
+unfolding member
+member-means q set = (eqb→eq (digit set q) 1, equal-test (digit set q) 1)
+
+-- subset: the test says whether each state of a is in b
+pub subset-members : (a b : ℕ) → T (subset a b) → (q : ℕ) → Member q a → Member q b
+unfolding subset
+subset-members a b h q i = omega (arith, digit-and a b q, ap (λ (x : ℕ). digit x q) (eqb→eq (bitAnd a b) a h))
+
+least : (x y : ℕ) → x < 2 → y < 2 → (x ≡ 1 → y ≡ 1) → min x y ≡ x
+least zero y hx hy f = omega arith
+least (suc x) y hx hy f = omega (arith, f (omega arith))
+
+pub members-subset : (a b : ℕ) → ((q : ℕ) → Member q a → Member q b) → T (subset a b)
+unfolding subset
+members-subset a b f =
+    equal-test (bitAnd a b) a
+    (same-digits (bitAnd a b) a (λ q. digit-and a b q ∙ least (digit a q) (digit b q) (omega arith) (omega arith) (f q)))
+
+pub subset-means : (a b : ℕ) → T (subset a b) ↔ ((q : ℕ) → Member q a → Member q b)
+subset-means a b = (subset-members a b, members-subset a b)
+
+pub subset-reflexive : (a : ℕ) → T (subset a a)
+subset-reflexive a = members-subset a a (λ q i. i)
+
+pub subset-transitive : (a b c : ℕ) → T (subset a b) → T (subset b c) → T (subset a c)
+subset-transitive a b c h k = members-subset a c (λ q i. subset-members b c k q (subset-members a b h q i))
+
+pub subset-antisymmetric : (a b : ℕ) → T (subset a b) → T (subset b a) → a ≡ b
+unfolding subset
+subset-antisymmetric a b h k = sym (eqb→eq (bitAnd a b) a h) ∙ and-comm a b ∙ eqb→eq (bitAnd b a) b k
+
+-- no state is in the empty set
+pub empty-members : (q : ℕ) → Member q 0 → ⊥
+empty-members q i = omega (arith, digit-zero q)
+
+pub empty-subset : (a : ℕ) → T (subset 0 a)
+empty-subset a = members-subset 0 a (λ q i. absurd (empty-members q i))
+
+-- union: a state is in it exactly if it is in either set
+pub union-members : (a b q : ℕ) → Member q (union a b) ↔ (Member q a ⊎ Member q b)
+unfolding union
+union-members a b q = (to, from)
+  where
+    pick : (x y : ℕ) → x < 2 → y < 2 → max x y ≡ 1 → (x ≡ 1) ⊎ (y ≡ 1)
+    pick zero y hx hy e = inr (omega arith)
+    pick (suc x) y hx hy e = inl (omega arith)
+
+    to : Member q (bitOr a b) → Member q a ⊎ Member q b
+    to h = pick (digit a q) (digit b q) (omega arith) (omega arith) (sym (digit-or a b q) ∙ h)
+
+    from : Member q a ⊎ Member q b → Member q (bitOr a b)
+    from (inl h) = digit-or a b q ∙ omega arith
+    from (inr h) = digit-or a b q ∙ omega arith
+
+-- single: its one state
+pub single-members : (q p : ℕ) → Member p (single q) ↔ (p ≡ q)
+unfolding single
+single-members q p = (to (ℕ-discrete p q), λ e. ap (λ (x : ℕ). digit (2 ^ q) x) e ∙ digit-power-self q)
+  where
+    to : Dec (p ≡ q) → Member p (2 ^ q) → p ≡ q
+    to (yes e) h = e
+    to (no n) h = absurd (omega (arith, digit-power-other q p n))
+
+-- within: the test says whether each state of the set is below n
+pub within-members : (n set : ℕ) → T (within n set) → (q : ℕ) → Member q set → q < n
+unfolding within
+within-members n set h = digit-above n set (ltb→lt set (2 ^ n) h)
+
+pub members-within : (n set : ℕ) → ((q : ℕ) → Member q set → q < n) → T (within n set)
+unfolding within
+members-within n set f = lt→ltb set (2 ^ n) (below-power n set f)
+
+pub within-means : (n set : ℕ) → T (within n set) ↔ ((q : ℕ) → Member q set → q < n)
+within-means n set = (within-members n set, members-within n set)
+
+-- as a number: such a set is below 2 ^ n
+pub within-below : (n set : ℕ) → T (within n set) → set < 2 ^ n
+unfolding within
+within-below n set h = ltb→lt set (2 ^ n) h
+
+pub below-within : (n set : ℕ) → set < 2 ^ n → T (within n set)
+unfolding within
+below-within n set h = lt→ltb set (2 ^ n) h
+
+pub subset-within : (n a b : ℕ) → T (subset a b) → T (within n b) → T (within n a)
+subset-within n a b h k = members-within n a (λ q i. within-members n b k q (subset-members a b h q i))
+
+pub union-within : (n a b : ℕ) → T (within n a) → T (within n b) → T (within n (union a b))
+union-within n a b h k = members-within n (union a b) (λ q i. below q (union-members a b q .0 i))
+  where
+    below : (q : ℕ) → Member q a ⊎ Member q b → q < n
+    below q (inl i) = within-members n a h q i
+    below q (inr i) = within-members n b k q i
+
+pub single-within : (n q : ℕ) → q < n → T (within n (single q))
+single-within n q h = members-within n (single q) (λ p i. subst (λ (x : ℕ). x < n) (sym (single-members q p .0 i)) h)
+
+-- full: exactly the states below n, so the sets within n are its subsets
+pub full-within : (n : ℕ) → T (within n (full n))
+unfolding full
+full-within n = below-within n (2 ^ n - 1) (ones-lt n)
+
+pub within-full : (n set : ℕ) → T (within n set) → T (subset set (full n))
+unfolding full subset
+within-full n set h =
+    equal-test (bitAnd set (2 ^ n - 1)) set (and-mask set n ∙ mod-eq-of-lt (within-below n set h))
+
+pub full-members : (n q : ℕ) → Member q (full n) ↔ (q < n)
+full-members n q = (
+  within-members n (full n) (full-within n) q,
+  λ l. subset-members (single q) (full n) (within-full n (single q) (single-within n q l)) q (single-members q q .1 refl),
+)
+
+-- what the machine's shifts compute
+pub shifted-one : (width q : ℕ) → q < width → (1 * 2 ^ q) % 2 ^ width ≡ single q
+unfolding single
+shifted-one width q h = ap (λ (x : ℕ). x % 2 ^ width) (one-mul (2 ^ q)) ∙ mod-eq-of-lt (pow-lt h)
+
+pub shifted-ones : (width n : ℕ) → n ≤ width → (2 ^ width - 1) / 2 ^ (width - n) ≡ full n
+unfolding full
+shifted-ones width n h =
+    let rest : ℕ = width - n in
+    let whole : n + rest ≡ width = omega arith in
+    ap (λ (x : ℕ). (2 ^ x - 1) / 2 ^ rest) (sym whole)
+    ∙ ap (λ (x : ℕ). x / 2 ^ rest) (ones-split n rest)
+    ∙ high (2 ^ n - 1) rest (ones-lt rest)
+
+-- the full set of a mask's 64 bits, by the ways in which n is tested
+pub full-of-none : (n : ℕ) → n ≡ 0 → 0 ≡ full (min n 64)
+unfolding full
+full-of-none n e = ap (λ (x : ℕ). 2 ^ min x 64 - 1) (sym e)
+
+pub full-of-more : (n : ℕ) → 64 ≤ n → 18446744073709551615 ≡ full (min n 64)
+unfolding full
+full-of-more n h = let e : 64 ≡ min n 64 = omega arith in ap (λ (x : ℕ). 2 ^ x - 1) e
+
+pub full-of-some : (n : ℕ) → n < 64 → 18446744073709551615 / 2 ^ (64 - n) ≡ full (min n 64)
+full-of-some n h = let e : n ≡ min n 64 = omega arith in shifted-ones 64 n (omega arith) ∙ ap (λ (x : ℕ). full x) e
+
+-- a mask has no bit at n or above exactly if it is at most the full set, as a number
+pub within-test : (n set top : ℕ) → set < 2 ^ 64 → top ≡ full (min n 64) → leb set top ≡ within n set
+unfolding full within
+within-test n set top h e = go (decLe n 64)
+  where
+    go : Dec (n ≤ 64) → leb set top ≡ ltb set (2 ^ n)
+    go (yes l) =
+        let m : min n 64 ≡ n = omega arith in
+        let t : suc top ≡ 2 ^ n = ap suc (e ∙ ap (λ (x : ℕ). 2 ^ x - 1) m) ∙ suc-ones n in
+        sym (leb·suc-suc set top) ∙ ap (leb (suc set)) t
+    go (no l) =
+        let m : min n 64 ≡ 64 = omega arith in
+        let t : top ≡ 2 ^ 64 - 1 = e ∙ ap (λ (x : ℕ). 2 ^ x - 1) m in
+        le-leb set top (omega arith) ∙ sym (lt-ltb set (2 ^ n) (lt-of-lt-of-le h (pow-mono {i = 64} {j = n} (omega arith))))

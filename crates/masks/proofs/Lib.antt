@@ -1,0 +1,3 @@
+-- Laws of sets of states, and of the numbers that hold them.
+pub mod Digits
+pub mod Laws

@@ -1,0 +1,14 @@
+use borrow.Author.Needs.{needs}
+use Rattle.masks.specs.Sets.{subset}
+use Rattle.masks.proofs.subset.Statement.{statement}
+use Rattle.masks.proofs.subset.Tie as tie
+use Rattle.masks.proofs.subset.Reads as reads
+use Rattle.masks.proofs.subset.Lts as lts
+
+-- src/lib.rt:11:1
+returns : tie.Need-returns
+unfolding subset
+returns c = search needs
+
+pub subset-spec : {M : Type 1} → statement M
+subset-spec = tie.close (tie.spec returns)

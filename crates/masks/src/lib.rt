@@ -1,0 +1,51 @@
+// Sets of states as masks of 64 bits: bit q stands for state q.
+ghost use mathlib.Core.Path.{_≡_};
+ghost use Prim.Native.Nat.{_<_, min};
+ghost use Rattle.masks.specs.Sets.{subset as isSubset, member as isMember, within as isWithin};
+ghost use Rattle.masks.specs.Sets.{union, single, full as fullSet};
+
+// A state's number.
+pub struct State(pub u8);
+
+// Whether each state of a is in b.
+pub fn subset(a: u64, b: u64) -> bool
+    ensures { λ r. ⌜ r ≡ isSubset a b ⌝ }
+{
+    a & b == a
+}
+
+// Whether the state q is in the set.
+pub fn member(q: State, set: u64) -> bool
+    requires { ⌜ q .0 < 64 ⌝ }
+    ensures { λ r. ⌜ r ≡ isMember (q .0) set ⌝ }
+{
+    set >> q.0 & 1 == 1
+}
+
+// The set with the state q put in.
+pub fn insert(q: State, set: u64) -> u64
+    requires { ⌜ q .0 < 64 ⌝ }
+    ensures { λ r. ⌜ r ≡ union set (single (q .0)) ⌝ }
+{
+    set | 1u64 << q.0
+}
+
+// The set of the first n states; more than 64 do not fit a mask, so n above 64 gives all 64.
+pub fn full(n: u8) -> u64
+    ensures { λ r. ⌜ r ≡ fullSet (min n 64) ⌝ }
+{
+    if n == 0 {
+        return 0;
+    }
+    if 64 <= n {
+        return 18446744073709551615;
+    }
+    18446744073709551615u64 >> (64 - n)
+}
+
+// Whether the set has no state at n or above.
+pub fn within(n: u8, set: u64) -> bool
+    ensures { λ r. ⌜ r ≡ isWithin n set ⌝ }
+{
+    set <= full(n)
+}

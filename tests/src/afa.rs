@@ -1,0 +1,90 @@
+//! The library's C functions, and the calls of them with every slice in guarded memory. Each call is
+//! made once with the slices at either edge, and both must answer alike.
+
+use crate::compare::hexadecimal;
+use crate::fault;
+use crate::guarded::{ReadOnly, Writable, EDGES};
+
+mod interface {
+    extern "C" {
+        pub fn afa_read(image: *const u8, image_len: usize, head: *mut u64) -> u64;
+        pub fn afa_accepts(
+            image: *const u8,
+            image_len: usize,
+            word: *const u8,
+            word_len: usize,
+        ) -> u64;
+    }
+}
+
+/// `afa_read` on slices as they are.
+pub fn read(image: &[u8], head: &mut [u64; 5]) -> u64 {
+    // SAFETY: the pointers are to as many bytes and numbers as the interface says.
+    fault::on_record("afa_read", image, &[], || unsafe {
+        interface::afa_read(image.as_ptr(), image.len(), head.as_mut_ptr())
+    })
+}
+
+/// `afa_accepts` on slices as they are.
+pub fn accepts(image: &[u8], word: &[u8]) -> u64 {
+    // SAFETY: the pointers are to as many bytes as the lengths say.
+    fault::on_record("afa_accepts", image, word, || unsafe {
+        interface::afa_accepts(image.as_ptr(), image.len(), word.as_ptr(), word.len())
+    })
+}
+
+/// The library with the memory that is lent to it, mapped once and used for every call.
+pub struct Library {
+    image: ReadOnly,
+    word: ReadOnly,
+    head: Writable,
+}
+
+impl Library {
+    /// With room for images and words of 2^18 bytes.
+    pub fn new() -> Self {
+        Library {
+            image: ReadOnly::with_room(1 << 18),
+            word: ReadOnly::with_room(1 << 18),
+            head: Writable::with_room(size_of::<[u64; 5]>()),
+        }
+    }
+
+    /// The answer, and what `head` holds after it.
+    pub fn read(&mut self, image: &[u8], head: [u64; 5]) -> (u64, [u64; 5]) {
+        let answers = EDGES.map(|edge| {
+            let image = self.image.lend(image, edge);
+            let head = self.head.lend(&head, edge);
+            let head: &mut [u64; 5] = head.try_into().expect("five numbers");
+            (read(image, head), *head)
+        });
+        assert_eq!(
+            answers[0],
+            answers[1],
+            "afa_read answers by where the image stands: {}",
+            hexadecimal(image)
+        );
+        answers[0]
+    }
+
+    pub fn accepts(&mut self, image: &[u8], word: &[u8]) -> u64 {
+        let answers = EDGES.map(|edge| {
+            let image = self.image.lend(image, edge);
+            let word = self.word.lend(word, edge);
+            accepts(image, word)
+        });
+        assert_eq!(
+            answers[0],
+            answers[1],
+            "afa_accepts answers by where the slices stand: {}, word {word:?}",
+            hexadecimal(image)
+        );
+        answers[0]
+    }
+}
+
+impl Default for Library {
+    fn default() -> Self {
+        Library::new()
+    }
+}

@@ -1,0 +1,14 @@
+//! The library's C interface, called from outside, and an implementation of the scope document that
+//! shares nothing with it. The tests compare the two: `cargo test --release`, and with
+//! `-- --nocapture` they say how much they have compared.
+
+pub mod acceptance;
+pub mod afa;
+pub mod checks;
+pub mod compare;
+pub mod damage;
+pub mod fault;
+pub mod generate;
+pub mod guarded;
+pub mod image;
+pub mod random;
