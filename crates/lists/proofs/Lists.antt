@@ -1,19 +1,19 @@
 -- The laws of membership, of tests over lists and numbers, and of keeping. Assumes nothing.
 use Prim.Native.Nat.{ℕ, zero, suc, _+_, _-_, _≤_, _<_}
-use mathlib.Core.Path.{_≡_, refl, sym, ap, subst, _∙_}
+use mathlib.Core.Path.{_≡_, refl, sym, ap, _∙_}
 use mathlib.Core.Bool.{Bool, true, false}
 use mathlib.Core.List.{List, [], _∷_, _++_}
 use mathlib.Core.Logic.{_⊎_, inl, inr}
-use mathlib.Core.Option.{Option, none, some}
+use mathlib.Core.Option.{none, some}
 use native.Mathlib.Decide.{ℕ-discrete}
 use native.Mathlib.Numerals.{add-one}
 use native.Mathlib.Omega.{arith}
 use lib.Dec.{T}
 use lib.ListN.{length, getD, drop, drop-of-length-le}
 use lib.Seq.{drop-cons}
-use Rattle.lists.specs.Tests.{_and_, _or_, neg, choose}
+use Rattle.lists.specs.Tests.{_and_, _or_, choose}
 use Rattle.lists.specs.Lists.{_∈_, here, there, Each, any, all, keep, firstOf, firstFrom, eachFrom}
-use Rattle.lists.proofs.Tests.{holds, fails, and-left, and-right, and-both, or-cases, or-left, or-right, neg-fails, fails-neg, decide}
+use Rattle.lists.proofs.Tests.{holds, fails, and-left, and-right, and-both, or-cases, or-left, or-right, decide}
 
 module _ {A : Type 0} where
   pub in-none : {x : A} → x ∈ [] → ⊥
@@ -44,6 +44,27 @@ module _ {A : Type 0} where
           up (inl k) = inl (there k)
           up (inr k) = inr k
 
+  -- the elements beside one are elements, and an element is that one or beside it
+  module _ {x : A} (y : A) where
+    pub beside-in : (a b : List A) → x ∈ (a ++ b) → x ∈ (a ++ y ∷ b)
+    beside-in [] b m = there m
+    beside-in (z ∷ a) b (here e) = here e
+    beside-in (z ∷ a) b (there m) = there (beside-in a b m)
+
+    pub in-beside : (a b : List A) → x ∈ (a ++ y ∷ b) → (x ≡ y) ⊎ x ∈ (a ++ b)
+    in-beside [] b m = in-cases m
+    in-beside (z ∷ a) b (here e) = inr (here e)
+    in-beside (z ∷ a) b (there m) = at (in-beside a b m)
+      where
+        at : (x ≡ y) ⊎ x ∈ (a ++ b) → (x ≡ y) ⊎ x ∈ (z ∷ a ++ b)
+        at (inl e) = inl e
+        at (inr k) = inr (there k)
+
+  -- Each: of one element more
+  pub each-more : {P : A → Type 0} {x : A} {l : List A} → P x → Each P l → Each P (x ∷ l)
+  each-more p f y (here e) = rw e p
+  each-more p f y (there m) = f y m
+
   -- any: the test holds of an element of the list
   pub record Some (test : A → Bool) (l : List A) : Type 0 where
     pub element : A
@@ -70,12 +91,8 @@ module _ {A : Type 0} where
 
   pub all-each : (test : A → Bool) (l : List A) → T (all test l) → Each (λ x. T (test x)) l
   unfolding all
-  all-each test [] t x m = absurd (in-none m)
-  all-each test (y ∷ l) t x m = at (all-each test l (and-right _ _ t) x) (in-cases m)
-    where
-      at : (x ∈ l → T (test x)) → (x ≡ y) ⊎ x ∈ l → T (test x)
-      at rec (inl e) = rw e (and-left _ _ t)
-      at rec (inr h) = rec h
+  all-each test [] t = λ x m. absurd (in-none m)
+  all-each test (y ∷ l) t = each-more (and-left _ _ t) (all-each test l (and-right _ _ t))
 
   pub each-all : (test : A → Bool) (l : List A) → Each (λ x. T (test x)) l → T (all test l)
   unfolding all
@@ -131,6 +148,16 @@ module _ {A : Type 0} where
       at : (b : Bool) → length (keep test l) ≤ length l → length (choose b (y ∷ keep test l) (keep test l)) ≤ length (y ∷ l)
       at true h = omega arith
       at false h = omega arith
+
+  pub keep-append : (test : A → Bool) (a b : List A) → keep test (a ++ b) ≡ keep test a ++ keep test b
+  unfolding keep choose
+  keep-append test [] b = refl
+  keep-append test (x ∷ a) b = at (test x) (keep-append test a b)
+    where
+      at : (t : Bool) → keep test (a ++ b) ≡ keep test a ++ keep test b
+          → choose t (x ∷ keep test (a ++ b)) (keep test (a ++ b)) ≡ choose t (x ∷ keep test a) (keep test a) ++ keep test b
+      at true e = ap (λ (l : List A). x ∷ l) e
+      at false e = e
 
   -- firstOf: none has the test, or one of the list's elements has it
   pub first-of-none : (test : A → Bool) (l : List A) → firstOf test l ≡ none → Each (λ x. T (test x) → ⊥) l

@@ -125,6 +125,10 @@ unfolding full subset
 within-full n set h =
     equal-test (bitAnd set (2 ^ n - 1)) set (and-mask set n ∙ mod-eq-of-lt (within-below n set h))
 
+pub suc-full : (n : ℕ) → suc (full n) ≡ 2 ^ n
+unfolding full
+suc-full n = suc-ones n
+
 pub full-members : (n q : ℕ) → Member q (full n) ↔ (q < n)
 full-members n q = (
   within-members n (full n) (full-within n) q,

@@ -1,0 +1,81 @@
+-- The backward system of a valid image: it is lawful, it accepts the words that runs accept, and one automaton gives one language. Assumes nothing.
+use Prim.Native.Nat.{ℕ, _<_}
+use mathlib.Core.Path.{_≡_, refl, sym, ap, ap₂, subst, _∙_}
+use mathlib.Core.Bool.{Bool, true, false}
+use mathlib.Core.List.{List, [], _∷_}
+use mathlib.Core.Logic.{_⊎_, inl, inr, _↔_}
+use lib.Dec.{T}
+use Rattle.lists.specs.Tests.{_or_}
+use Rattle.lists.specs.Lists.{_∈_, Each, any}
+use Rattle.lists.proofs.Lists.{in-none, in-cases}
+use Rattle.masks.specs.Sets.{subset, within}
+use Rattle.automata.specs.Image.{Valid, statesOf, symbolsOf, initialOf, finalOf, rowsOf}
+use Rattle.automata.specs.Automaton.{Automaton, automatonOf, backward, HoldOne}
+use Rattle.automata.specs.Automaton.{takenBack as takenBackBy}
+use Rattle.automata.specs.Acceptance.{Accepted}
+use Rattle.automata.specs.WordTest.{accepts as acceptsBack}
+use Rattle.automata.proofs.BackwardSets.{backward-monotone, backward-within}
+use Rattle.automata.proofs.AcceptedWords.{Proper, valid-proper, accepted-means}
+use Rattle.machine.specs.System.{System, takenBack, Word, accepts, Lawful}
+use Rattle.machine.specs.Meaning.{SameLanguage}
+use Rattle.machine.specs.Runs.{systemOf}
+use Rattle.machine.proofs.WordTests.{same-accepts}
+
+-- the laws that the promises ask of a system hold of every valid image
+pub image-lawful : (image : List ℕ) → Valid image → Lawful (systemOf image)
+image-lawful image valid =
+    let proper = valid-proper image valid in
+    record {
+      initial-within = proper .initial-within;
+      finals-within = λ F m. only F (in-cases m);
+      backward-within = λ s X l. backward-within (statesOf image) (rowsOf image s) X (proper .row-state s l);
+      backward-monotone = λ s X Y. backward-monotone (rowsOf image s) X Y;
+    }
+  where
+    only : (F : ℕ) → (F ≡ finalOf image) ⊎ F ∈ [] → T (within (statesOf image) F)
+    only F (inl e) = rw e (valid-proper image valid .final-within)
+    only F (inr m) = absurd (in-none m)
+
+-- taking back is the same in both
+taken-same : (image word : List ℕ) (X : ℕ) → takenBack (systemOf image) word X ≡ takenBackBy (automatonOf image) word X
+unfolding takenBack takenBackBy
+taken-same image [] X = refl
+taken-same image (s ∷ word) X = ap (backward (rowsOf image s)) (taken-same image word X)
+
+or-none : (b : Bool) → b or false ≡ b
+unfolding _or_
+or-none true = refl
+or-none false = refl
+
+pub system-accepts : (image word : List ℕ) → accepts (systemOf image) word ≡ acceptsBack (automatonOf image) word
+unfolding accepts acceptsBack any
+system-accepts image word =
+    or-none (subset (initialOf image) (takenBack (systemOf image) word (finalOf image)))
+    ∙ ap (subset (initialOf image)) (taken-same image word (finalOf image))
+
+-- a word is accepted by runs exactly if it is a word of the system that the system accepts
+pub accepted-by-runs : (image : List ℕ) → Valid image → (word : List ℕ)
+    → Accepted (automatonOf image) word ↔ (Word (systemOf image) word × T (accepts (systemOf image) word))
+accepted-by-runs image valid word =
+    let means = accepted-means (automatonOf image) (valid-proper image valid) word in (
+      λ a. (means .0 a .0, subst T (sym (system-accepts image word)) (means .0 a .1)),
+      λ h. means .1 (h .0, subst T (system-accepts image word) (h .1)),
+    )
+
+-- images that hold one automaton have one language
+pub same-language : (image other : List ℕ) → HoldOne image other → SameLanguage (systemOf image) (systemOf other)
+same-language image other same =
+    record {
+      words = λ word. (λ h s m. subst (λ (k : ℕ). s < k) (same .symbols) (h s m), λ h s m. subst (λ (k : ℕ). s < k) (sym (same .symbols)) (h s m));
+      accepted = λ word known.
+          system-accepts image word
+          ∙ same-accepts (automatonOf image) (automatonOf other) same word known
+          ∙ sym (system-accepts other word);
+    }
+
+-- and accept the same words by runs
+pub same-accepted : (image other word : List ℕ) → Valid image → Valid other → SameLanguage (systemOf image) (systemOf other)
+    → Accepted (automatonOf image) word → Accepted (automatonOf other) word
+same-accepted image other word valid valid′ same a =
+    let h = accepted-by-runs image valid word .0 a in
+    accepted-by-runs other valid′ word .1 (same .words word .0 (h .0), subst T (same .accepted word (h .0)) (h .1))

@@ -1,0 +1,95 @@
+-- The lines of 01's "Models and what they give" that are marked *, as one list. Assumes nothing: these are definitions.
+use Prim.Native.Nat.{ℕ}
+use mathlib.Core.Path.{_≡_}
+use mathlib.Core.List.{List, [], _∷_}
+use Rattle.automata.specs.WordTest.{wordTest}
+use Rattle.machine.specs.Runs.{Lent, Result, runOf}
+
+-- the bytes of small numbers in front of more bytes: 8 bytes, a pair, a row
+abbrev eight : ℕ → List ℕ → List ℕ
+eight number rest = number ∷ 0 ∷ 0 ∷ 0 ∷ 0 ∷ 0 ∷ 0 ∷ 0 ∷ rest
+
+abbrev pair : ℕ → ℕ → List ℕ → List ℕ
+pair offset size rest = offset ∷ 0 ∷ 0 ∷ 0 ∷ size ∷ 0 ∷ 0 ∷ 0 ∷ rest
+
+abbrev row : ℕ → ℕ → List ℕ → List ℕ
+row state case rest = state ∷ eight case rest
+
+-- "A (001, Figure 2.1): n 3, k 2, I 1, F 4; symbol 0: (0, 2), (0, 6); symbol 1: (2, 1). Pairs (36, 18), (54, 9); 63 bytes."
+abbrev A : List ℕ
+A = 3 ∷ 2 ∷ 3 ∷ 0 ∷ eight 1 (eight 4 (pair 36 18 (pair 54 9 (row 0 2 (row 0 6 (row 2 1 []))))))
+
+-- "B: n 2, k 1, I 1, F 2; symbol 0: (0, 2)."
+abbrev B : List ℕ
+B = 2 ∷ 1 ∷ 1 ∷ 0 ∷ eight 1 (eight 2 (pair 28 9 (row 0 2 [])))
+
+-- "C: n 3, k 2, I 1, F 0; symbol 0: (0, 6); symbol 1: (1, 0), (2, 0)."
+abbrev C : List ℕ
+C = 3 ∷ 2 ∷ 3 ∷ 0 ∷ eight 1 (eight 0 (pair 36 9 (pair 45 18 (row 0 6 (row 1 0 (row 2 0 []))))))
+
+-- "D: n 1, k 1, no rows, I 0, F 0."
+abbrev D : List ℕ
+D = 1 ∷ 1 ∷ 0 ∷ 0 ∷ eight 0 (eight 0 (pair 28 0 []))
+
+-- a run with what it is lent and what it gives, or a word test with its number
+pub data Line : Type 0 where
+  run : (image : List ℕ) (lent : Lent) (hints : List ℕ) (allowance : ℕ) → Result → Line
+  test : (image word : List ℕ) → ℕ → Line
+
+-- tables that are lent, with other numbers in them
+abbrev lent : List ℕ → List ℕ → Lent
+lent blockers word = record { masks = blockers; levels = blockers; cases = word; symbols = word }
+
+abbrev three : List ℕ
+three = 9 ∷ 9 ∷ 9 ∷ []
+
+abbrev none : List ℕ
+none = 0 ∷ 0 ∷ 0 ∷ []
+
+-- the five numbers, and the four tables
+abbrev gives : ℕ → ℕ → ℕ → ℕ → ℕ → List ℕ → List ℕ → List ℕ → List ℕ → Result
+gives number steps level blockers accepted masks levels cases symbols = record {
+  number = number;
+  steps = steps;
+  level = level;
+  blockers = blockers;
+  accepted = accepted;
+  tables = record { masks = masks; levels = levels; cases = cases; symbols = symbols };
+}
+
+unfoldable pub starred : List Line
+starred =
+    -- "A: 0 3 1 1 0, frame 4 at level 2."
+    run A (lent three three) [] 100000 (gives 0 3 1 1 0 (4 ∷ 0 ∷ 0 ∷ []) (2 ∷ 0 ∷ 0 ∷ []) none none)
+    -- "A, allowance 2: 2 2 1 1 0, blocker 4 at level 1."
+    ∷ run A (lent three three) [] 2 (gives 2 2 1 1 0 (4 ∷ 0 ∷ 0 ∷ []) (1 ∷ 0 ∷ 0 ∷ []) none none)
+    -- "A, blocker room 0: 3 1 1 0 0. With allowance 1 as well: 2 1 1 0 0."
+    ∷ run A (lent [] three) [] 100000 (gives 3 1 1 0 0 [] [] none none)
+    ∷ run A (lent [] three) [] 1 (gives 2 1 1 0 0 [] [] none none)
+    -- "A, word room 0: 4 0 0 0 0."
+    ∷ run A (lent three []) [] 100000 (gives 4 0 0 0 0 none none [] [])
+    -- "B: 1 2 1 0 0, word 0."
+    ∷ run B (lent three three) [] 100000 (gives 1 2 1 0 0 none none none none)
+    -- "C: 1 6 2 1 0, word 0 1, blocker 2 at level 1."
+    ∷ run C (lent three three) [] 100000 (gives 1 6 2 1 0 (2 ∷ 0 ∷ 0 ∷ []) (1 ∷ 0 ∷ 0 ∷ []) none (0 ∷ 1 ∷ 0 ∷ []))
+    -- "C, hint 6: as without, hint not accepted. Hint 4: 1 6 2 1 1, blocker 4."
+    ∷ run C (lent three three) (6 ∷ []) 100000 (gives 1 6 2 1 0 (2 ∷ 0 ∷ 0 ∷ []) (1 ∷ 0 ∷ 0 ∷ []) none (0 ∷ 1 ∷ 0 ∷ []))
+    ∷ run C (lent three three) (4 ∷ []) 100000 (gives 1 6 2 1 1 (4 ∷ 0 ∷ 0 ∷ []) (1 ∷ 0 ∷ 0 ∷ []) none (0 ∷ 1 ∷ 0 ∷ []))
+    -- "D, allowance 0: 1 0 0 0 0."
+    ∷ run D (lent three three) [] 0 (gives 1 0 0 0 0 none none none none)
+    -- "Word test on C: 0 1 yes; 1 0 no; the empty word no; symbol 2 gives 32."
+    ∷ test C (0 ∷ 1 ∷ []) 1
+    ∷ test C (1 ∷ 0 ∷ []) 0
+    ∷ test C [] 0
+    ∷ test C (2 ∷ []) 32
+    ∷ []
+
+-- the line says what the definitions give
+unfoldable pub Right : Line → Type 0
+Right (run image tables hints allowance result) = runOf image tables hints allowance ≡ result
+Right (test image word number) = wordTest image word ≡ number
+
+-- every line does
+unfoldable pub AllRight : List Line → Type 0
+AllRight [] = Unit {0}
+AllRight (line ∷ lines) = Right line × AllRight lines
