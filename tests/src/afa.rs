@@ -1,9 +1,12 @@
 //! The library's C functions, and the calls of them with every slice in guarded memory. Each call is
-//! made once with the slices at either edge, and both must answer alike.
+//! made once with the slices at either edge, and both must answer alike. `afa_run` stands in a module
+//! of its own.
 
 use crate::compare::hexadecimal;
 use crate::fault;
 use crate::guarded::{ReadOnly, Writable, EDGES};
+
+pub mod run;
 
 mod interface {
     extern "C" {
@@ -20,15 +23,16 @@ mod interface {
 /// `afa_read` on slices as they are.
 pub fn read(image: &[u8], head: &mut [u64; 5]) -> u64 {
     // SAFETY: the pointers are to as many bytes and numbers as the interface says.
-    fault::on_record("afa_read", image, &[], || unsafe {
+    fault::on_record("afa_read", &[("image", image)], || unsafe {
         interface::afa_read(image.as_ptr(), image.len(), head.as_mut_ptr())
     })
 }
 
 /// `afa_accepts` on slices as they are.
 pub fn accepts(image: &[u8], word: &[u8]) -> u64 {
+    let lent = [("image", image), ("word", word)];
     // SAFETY: the pointers are to as many bytes as the lengths say.
-    fault::on_record("afa_accepts", image, word, || unsafe {
+    fault::on_record("afa_accepts", &lent, || unsafe {
         interface::afa_accepts(image.as_ptr(), image.len(), word.as_ptr(), word.len())
     })
 }

@@ -7,6 +7,8 @@ use crate::checks::{check, Head};
 use crate::image::Model;
 use std::fmt::Display;
 
+pub mod run;
+
 /// What `head` holds before a call, other numbers for other images.
 fn filling(image: &[u8]) -> [u64; 5] {
     let seed = image.iter().fold(image.len() as u64, |seed, &byte| {

@@ -3,8 +3,9 @@
 
 use std::cell::Cell;
 use std::ffi::{c_int, c_void};
+use std::mem::transmute;
+use std::ptr;
 use std::sync::Once;
-use std::{ptr, slice};
 
 extern "C" {
     fn sigaction(signal: c_int, action: *const Action, before: *mut Action) -> c_int;
@@ -28,11 +29,14 @@ const DEADLY: [c_int; 5] = [4, 6, 7, 8, 11];
 const SA_ONSTACK: c_int = 0x0800_0000;
 const SA_RESETHAND: c_int = 0x8000_0000_u32 as c_int;
 
+/// What is lent for reading, by its name.
+pub type Lent<'a> = (&'static str, &'a [u8]);
+
 #[derive(Clone, Copy)]
 struct Call {
     name: &'static str,
-    image: (*const u8, usize),
-    word: (*const u8, usize),
+    /// In truth only as long as the call lasts.
+    lent: &'static [Lent<'static>],
 }
 
 thread_local! {
@@ -42,7 +46,7 @@ thread_local! {
 static LISTENING: Once = Once::new();
 
 /// Makes the call and has it on record while it lasts.
-pub fn on_record(name: &'static str, image: &[u8], word: &[u8], call: impl FnOnce() -> u64) -> u64 {
+pub fn on_record(name: &'static str, lent: &[Lent], call: impl FnOnce() -> u64) -> u64 {
     LISTENING.call_once(|| {
         let action = Action {
             handler: report,
@@ -56,11 +60,9 @@ pub fn on_record(name: &'static str, image: &[u8], word: &[u8], call: impl FnOnc
             assert_eq!(done, 0, "sigaction");
         }
     });
-    CALL.set(Some(Call {
-        name,
-        image: (image.as_ptr(), image.len()),
-        word: (word.as_ptr(), word.len()),
-    }));
+    // SAFETY: what is lent outlives the call, and after that it is off the record.
+    let lent = unsafe { transmute::<&[Lent], &'static [Lent<'static>]>(lent) };
+    CALL.set(Some(Call { name, lent }));
     let answer = call();
     CALL.set(None);
     answer
@@ -71,10 +73,12 @@ extern "C" fn report(_: c_int) {
     if let Some(call) = CALL.get() {
         say(b"\na signal ended the call of ");
         say(call.name.as_bytes());
-        say(b"\nimage: ");
-        say_hexadecimal(call.image);
-        say(b"\nword: ");
-        say_hexadecimal(call.word);
+        for (name, bytes) in call.lent {
+            say(b"\n");
+            say(name.as_bytes());
+            say(b": ");
+            say_hexadecimal(bytes);
+        }
         say(b"\n");
     }
 }
@@ -84,12 +88,10 @@ fn say(bytes: &[u8]) {
     unsafe { write(2, bytes.as_ptr().cast(), bytes.len()) };
 }
 
-fn say_hexadecimal((bytes, length): (*const u8, usize)) {
+fn say_hexadecimal(bytes: &[u8]) {
     const DIGITS: &[u8; 16] = b"0123456789abcdef";
     // No image that is lent for its content is longer.
-    let shown = length.min(1 << 18);
-    // SAFETY: the slices on record outlive the call that was interrupted.
-    for chunk in unsafe { slice::from_raw_parts(bytes, shown) }.chunks(256) {
+    for chunk in bytes[..bytes.len().min(1 << 18)].chunks(256) {
         let mut text = [0; 512];
         for (digits, byte) in text.chunks_exact_mut(2).zip(chunk) {
             digits[0] = DIGITS[usize::from(byte >> 4)];

@@ -5,6 +5,9 @@ use crate::acceptance::word_backward_set;
 use crate::image::{all_states, Model, Row};
 use crate::random::Random;
 
+pub mod hints;
+pub mod runs;
+
 /// A number of states or symbols.
 fn size(random: &mut Random) -> usize {
     match random.below(20) {
@@ -134,6 +137,22 @@ pub fn aim(random: &mut Random, model: &mut Model, word: &[u8]) {
     if outside != 0 && random.chance(50) {
         let states: Vec<u32> = (0..64).filter(|state| outside >> state & 1 == 1).collect();
         model.initial |= 1 << random.pick(&states);
+    }
+}
+
+/// The models of two states and one symbol, by number: I is i mod 4, F i / 4 mod 4, the set of state
+/// 0's cases i / 16 mod 16 and state 1's i / 256, bit c for case c; rows by state, then by case.
+pub fn two_states(i: u64) -> Model {
+    let mut rows = Vec::new();
+    for (state, cases) in [(0, i / 16 % 16), (1, i / 256)] {
+        let chosen = (0..4).filter(|case| cases >> case & 1 == 1);
+        rows.extend(chosen.map(|case| Row { state, case }));
+    }
+    Model {
+        states: 2,
+        initial: i % 4,
+        final_set: i / 4 % 4,
+        rows: vec![rows],
     }
 }
 

@@ -103,6 +103,25 @@ impl Writable {
     }
 }
 
+/// Memory that the library may not touch at all, however much there is of it. It takes none.
+pub struct Untouchable {
+    fenced: Fenced,
+}
+
+impl Untouchable {
+    pub fn with_room(bytes: usize) -> Self {
+        Untouchable {
+            fenced: Fenced::with_room(bytes),
+        }
+    }
+
+    pub fn lend<T>(&self, count: usize, edge: Edge) -> *mut T {
+        let at = self.fenced.place::<T>(count, edge);
+        // SAFETY: the place is inside.
+        unsafe { self.fenced.inside().add(at).cast() }
+    }
+}
+
 /// Memory that the library may only read.
 pub struct ReadOnly {
     fenced: Fenced,

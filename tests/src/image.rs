@@ -141,3 +141,20 @@ pub fn model_c() -> Model {
 pub fn model_d() -> Model {
     Model::new(1, 0, 0, &[&[]])
 }
+
+/// Coprime rings: one symbol moves every state of a ring on, I has the first state of each and F the
+/// last.
+pub fn rings(sizes: &[usize]) -> Model {
+    let mut model = Model::plain(sizes.iter().sum(), 1, 0);
+    let mut first = 0;
+    for &size in sizes {
+        model.initial |= 1 << first;
+        model.final_set |= 1 << (first + size - 1);
+        model.rows[0].extend((0..size).map(|place| Row {
+            state: (first + place) as u8,
+            case: 1 << (first + (place + 1) % size),
+        }));
+        first += size;
+    }
+    model
+}

@@ -1,6 +1,6 @@
 //! The library's C interface, called from outside, and an implementation of the scope document that
 //! shares nothing with it. The tests compare the two: `cargo test --release`, and with
-//! `-- --nocapture` they say how much they have compared.
+//! `-- --nocapture` they say how much they have compared. `cargo bench` compares their speed.
 
 pub mod acceptance;
 pub mod afa;
@@ -11,4 +11,8 @@ pub mod fault;
 pub mod generate;
 pub mod guarded;
 pub mod image;
+pub mod machine;
 pub mod random;
+pub mod rearrange;
+pub mod search;
+pub mod tables;

@@ -20,7 +20,8 @@ fn trespass() {
     let mut read_only = ReadOnly::with_room(100);
     let mut writable = Writable::with_room(100);
     let at_end = read_only.lend(&LENT, Edge::End).as_ptr();
-    fault::on_record("trespass", &LENT, b"\x05\x06", || {
+    let lent: [fault::Lent; 2] = [("image", &LENT), ("word", b"\x05\x06")];
+    fault::on_record("trespass", &lent, || {
         // SAFETY: the first two stay in what was lent. The others are not safe, and the signal in
         // which they end is what is tested.
         unsafe {

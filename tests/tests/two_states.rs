@@ -4,24 +4,7 @@
 use afa_tests::acceptance::{accepts_backwards, Runs, Start};
 use afa_tests::afa::Library;
 use afa_tests::compare::{compare_read, compare_word};
-use afa_tests::generate::every_word;
-use afa_tests::image::{Model, Row};
-
-/// I is i mod 4, F i / 4 mod 4, the set of state 0's cases i / 16 mod 16 and state 1's i / 256, bit c
-/// for case c; rows by state, then by case.
-fn numbered(i: u64) -> Model {
-    let mut rows = Vec::new();
-    for (state, cases) in [(0, i / 16 % 16), (1, i / 256)] {
-        let chosen = (0..4).filter(|case| cases >> case & 1 == 1);
-        rows.extend(chosen.map(|case| Row { state, case }));
-    }
-    Model {
-        states: 2,
-        initial: i % 4,
-        final_set: i / 4 % 4,
-        rows: vec![rows],
-    }
-}
+use afa_tests::generate::{every_word, two_states};
 
 #[test]
 fn all_models() {
@@ -29,7 +12,7 @@ fn all_models() {
     let words = every_word(2, 4);
     let mut answers = [0_usize; 33];
     for i in 0..4096 {
-        let model = numbered(i);
+        let model = two_states(i);
         let image = model.image();
         assert!(
             compare_read(&mut library, &image, &model).is_ok(),

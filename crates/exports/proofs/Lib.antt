@@ -1,1 +1,3 @@
+-- Laws of what the C interface gives back.
 pub mod Heads
+pub mod Runs

@@ -3,7 +3,9 @@ use automata::image::Image;
 ghost use mathlib.Core.Path.{_≡_};
 ghost use Rattle.automata.specs.Answers.{readImage};
 ghost use Rattle.automata.specs.WordTest.{wordTest};
-ghost use Rattle.exports.specs.Interface.{imageNumber, headAfter};
+ghost use Rattle.machine.specs.Runs.{runOf};
+ghost use Rattle.checker.specs.Whole.{lentOf};
+ghost use Rattle.exports.specs.Interface.{imageNumber, headAfter, Ran};
 
 // 0, and n, k, m, I and F in `head`; or the refusing number, and `head` as it was.
 #[no_mangle]
@@ -32,4 +34,24 @@ pub extern "C" fn afa_accepts(image: &[u8], word: &[u8]) -> u64
     ensures { λ r. ⌜ r ≡ wordTest (now (image .entry)) (now (word .entry)) ⌝ }
 {
     automata::word::word_test(image, word)
+}
+
+// The number of a run, with steps, level, blockers held and hints accepted in `counts`. A refused run leaves its tables as they were.
+#[no_mangle]
+pub extern "C" fn afa_run(
+    image: &[u8],
+    masks: &mut [u64],
+    levels: &mut [u32],
+    cases: &mut [u64],
+    symbols: &mut [u8],
+    hints: &[u64],
+    allowance: u64,
+    counts: &mut [u64; 4],
+) -> u64
+    ensures { λ r. ⌜ Ran r (now (counts .exit)) (now (masks .exit)) (now (levels .exit)) (now (cases .exit)) (now (symbols .exit))
+        (runOf (now (image .entry)) (lentOf (now (masks .entry)) (now (levels .entry)) (now (cases .entry)) (now (symbols .entry))) (now (hints .entry)) allowance) ⌝ }
+{
+    let made = checker::run::run(image, masks, levels, cases, symbols, hints, allowance);
+    *counts = [made.steps, made.level, made.blockers, made.accepted];
+    made.number
 }

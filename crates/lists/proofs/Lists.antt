@@ -233,6 +233,20 @@ module _ (test : ℕ → Bool) (bound s : ℕ) where
   unfolding eachFrom
   each-from-ends l = let c : bound - s ≡ 0 = omega arith in rw c
 
+-- a search among the numbers below a bound, by what remains of it at number s: the test holds there, it fails there, or nothing remains
+module _ (test : ℕ → Bool) (bound s : ℕ) where
+  pub first-from-here : s < bound → test s ≡ true → firstFrom test (bound - s) s ≡ some s
+  unfolding firstFrom choose
+  first-from-here l e = let c : bound - s ≡ suc (bound - (s + 1)) = omega arith in rw (c, e)
+
+  pub first-from-later : s < bound → test s ≡ false → firstFrom test (bound - s) s ≡ firstFrom test (bound - (s + 1)) (s + 1)
+  unfolding firstFrom choose
+  first-from-later l e = let c : bound - s ≡ suc (bound - (s + 1)) = omega arith in rw (c, e, add-one)
+
+  pub first-from-nowhere : bound ≤ s → firstFrom test (bound - s) s ≡ none
+  unfolding firstFrom
+  first-from-nowhere l = let c : bound - s ≡ 0 = omega arith in rw c
+
 -- an element by its place
 pub at-in : (l : List ℕ) (i : ℕ) → i < length l → getD l i 0 ∈ l
 at-in [] i h = absurd (omega arith)

@@ -1,11 +1,35 @@
--- What stands in lent tables: new entries in place of old ones keep a table's length, and are read back as they are. Assumes nothing.
-use Prim.Native.Nat.{ℕ, zero, suc, _+_, _-_, _≤_, _<_, max}
+-- What stands in lent tables: new entries in place of old ones keep a table's length and are read back as they are, one change after another is one
+-- change, and what is read from a table and written back changes nothing. Assumes nothing.
+use Prim.Native.Nat.{ℕ, zero, suc, _+_, _-_, _≤_, max}
 use mathlib.Core.Path.{_≡_, refl, sym, ap, _∙_}
-use mathlib.Core.List.{List, [], _∷_, _++_, append-nil}
+use mathlib.Core.List.{List, [], _∷_, _++_, append-nil, append-assoc}
 use native.Mathlib.Omega.{arith}
-use lib.ListN.{length, getD, drop, replicate, length-append, length-drop, length-replicate, drop-of-length-le}
-use Rattle.machine.specs.Machine.{Blocker}
-use Rattle.machine.specs.Lent.{blockersFrom, column, maskOf, levelOf, placed}
+use lib.ListN.{
+  length,
+  getD,
+  take,
+  drop,
+  replicate,
+  length-append,
+  length-drop,
+  length-replicate,
+  drop-of-length-le,
+  replicate-append-replicate,
+  take-append-drop,
+}
+use lib.Seq.{take-suc, drop-drop, append-snoc, getD-at, length-take-le}
+use Rattle.machine.specs.Machine.{Blocker, Pending}
+use Rattle.machine.specs.Lent.{
+  blockersFrom,
+  pendingFirst,
+  column,
+  columnBack,
+  maskOf,
+  levelOf,
+  caseOf,
+  symbolOf,
+  placed,
+}
 
 -- a column is as long as what it is of
 pub column-length : {A : Type 0} (field : A → ℕ) (entries : List A) → length (column field entries) ≡ length entries
@@ -25,6 +49,14 @@ placed-whole new before h =
     let m : length before ≤ max (length before) (length new) = omega arith in
     rw (drop-of-length-le before m, append-nil)
 
+-- as many new entries as old ones: no place becomes free
+pub placed-exact : (new before : List ℕ) (old : ℕ) → length new ≡ old → placed old new before ≡ new ++ drop old before
+unfolding placed
+placed-exact new before old e =
+    let free : old - length new ≡ 0 = omega arith in
+    let most : max old (length new) ≡ old = omega arith in
+    rw (free, most, append-nil)
+
 -- the blockers one place further, behind one more entry
 shifted : (mask level : ℕ) (masks levels : List ℕ) (count at : ℕ)
     → blockersFrom (mask ∷ masks) (level ∷ levels) count (suc at) ≡ blockersFrom masks levels count at
@@ -41,3 +73,137 @@ read-back [] masks levels = refl
 read-back (blocker ∷ table) masks levels =
     ap (λ (rest : List Blocker). blocker ∷ rest)
     (shifted (blocker .mask) (blocker .level) (column maskOf table ++ masks) (column levelOf table ++ levels) (length table) 0 ∙ read-back table masks levels)
+
+-- a column from last to first is as long too
+pub column-back-length : {A : Type 0} (field : A → ℕ) (entries : List A) → length (columnBack field entries) ≡ length entries
+unfolding columnBack
+column-back-length field [] = refl
+column-back-length field (entry ∷ entries) = length-append (columnBack field entries) (field entry ∷ []) ∙ omega (arith, column-back-length field entries)
+
+-- as many pending cases are read as are asked for
+pub pending-length : (cases symbols : List ℕ) (count : ℕ) → length (pendingFirst cases symbols count) ≡ count
+unfolding pendingFirst
+pending-length cases symbols zero = refl
+pending-length cases symbols (suc count) = ap suc (pending-length cases symbols count)
+
+-- pending cases at the front of two tables are read back
+pub read-back-pending : (pending : List Pending) (cases symbols : List ℕ)
+    → pendingFirst (columnBack caseOf pending ++ cases) (columnBack symbolOf pending ++ symbols) (length pending) ≡ pending
+unfolding pendingFirst columnBack
+read-back-pending [] cases symbols = refl
+read-back-pending (p ∷ pending) cases symbols =
+    rw (append-snoc (columnBack caseOf pending) (p .case) cases, append-snoc (columnBack symbolOf pending) (p .symbol) symbols)
+    (rw (
+      getD-at (columnBack caseOf pending) (p .case) cases 0 (length pending) (column-back-length caseOf pending),
+      getD-at (columnBack symbolOf pending) (p .symbol) symbols 0 (length pending) (column-back-length symbolOf pending),
+    )
+    (ap (λ (rest : List Pending). p ∷ rest) (read-back-pending pending (p .case ∷ cases) (p .symbol ∷ symbols))))
+
+-- so they are where they stand in place of others
+pub read-back-placed : (pending : List Pending) (old older : ℕ) (cases symbols : List ℕ)
+    → pendingFirst (placed old (columnBack caseOf pending) cases) (placed older (columnBack symbolOf pending) symbols) (length pending) ≡ pending
+unfolding placed
+read-back-placed pending old older cases symbols =
+    rw (
+      append-assoc (columnBack caseOf pending) (replicate (old - length (columnBack caseOf pending)) 0) (drop (max old (length (columnBack caseOf pending))) cases),
+      append-assoc (columnBack symbolOf pending) (replicate (older - length (columnBack symbolOf pending)) 0)
+          (drop (max older (length (columnBack symbolOf pending))) symbols),
+    )
+    (read-back-pending pending (replicate (old - length (columnBack caseOf pending)) 0 ++ drop (max old (length (columnBack caseOf pending))) cases)
+    (replicate (older - length (columnBack symbolOf pending)) 0 ++ drop (max older (length (columnBack symbolOf pending))) symbols))
+
+-- a column of the pending cases is the front of its table
+pub cases-front : (cases symbols : List ℕ) (count : ℕ) → count ≤ length cases → columnBack caseOf (pendingFirst cases symbols count) ≡ take count cases
+unfolding pendingFirst columnBack
+cases-front cases symbols zero h = refl
+cases-front cases symbols (suc count) h =
+    ap (λ (front : List ℕ). front ++ getD cases count 0 ∷ []) (cases-front cases symbols count (omega arith)) ∙ sym (take-suc cases count 0 h)
+
+pub symbols-front : (cases symbols : List ℕ) (count : ℕ) → count ≤ length symbols → columnBack symbolOf (pendingFirst cases symbols count) ≡ take count symbols
+unfolding pendingFirst columnBack
+symbols-front cases symbols zero h = refl
+symbols-front cases symbols (suc count) h =
+    ap (λ (front : List ℕ). front ++ getD symbols count 0 ∷ []) (symbols-front cases symbols count (omega arith)) ∙ sym (take-suc symbols count 0 h)
+
+-- a table's own front in its place changes nothing
+pub placed-front : (count : ℕ) (before : List ℕ) → count ≤ length before → placed count (take count before) before ≡ before
+unfolding placed
+placed-front count before h =
+    let l : length (take count before) ≡ count = length-take-le count before h in
+    let none : count - count ≡ 0 = omega arith in
+    let most : max count count ≡ count = omega arith in
+    rw (l, none, most, append-nil) (take-append-drop count before)
+
+-- nor do the pending cases that were read from there
+pub placed-cases : (cases symbols : List ℕ) (count : ℕ) → count ≤ length cases → placed count (columnBack caseOf (pendingFirst cases symbols count)) cases ≡ cases
+placed-cases cases symbols count h = rw (cases-front cases symbols count h) (placed-front count cases h)
+
+pub placed-symbols : (cases symbols : List ℕ) (count : ℕ) → count ≤ length symbols → placed count (columnBack symbolOf (pendingFirst cases symbols count)) symbols ≡ symbols
+placed-symbols cases symbols count h = rw (symbols-front cases symbols count h) (placed-front count symbols h)
+
+-- without the first n entries: of two lists one after the other, and of 0 so many times
+drop-append : (n : ℕ) (front rest : List ℕ) → drop n (front ++ rest) ≡ drop n front ++ drop (n - length front) rest
+drop-append zero front rest = let e : 0 - length front ≡ 0 = omega arith in rw e
+drop-append (suc n) [] rest = let e : suc n - 0 ≡ suc n = omega arith in rw e
+drop-append (suc n) (x ∷ front) rest = let e : suc n - suc (length front) ≡ n - length front = omega arith in rw e (drop-append n front rest)
+
+drop-replicate : (n m : ℕ) → drop n (replicate {A = ℕ} m 0) ≡ replicate (m - n) 0
+drop-replicate zero m = let e : m - 0 ≡ m = omega arith in rw e
+drop-replicate (suc n) zero = let e : 0 - suc n ≡ 0 = omega arith in rw e
+drop-replicate (suc n) (suc m) = let e : suc m - suc n ≡ m - n = omega arith in rw e (drop-replicate n m)
+
+-- how many places are free, and how many lie in front of what is left as it was, after two changes
+grown-to : (a b : ℕ) → a + (b - a) ≡ max b a
+grown-to a b = omega arith
+
+above-both : (a b n : ℕ) → a ≤ n → max b a + (n - max b a) ≡ max b n
+above-both a b n h = omega arith
+
+taken-in-two : (a b n : ℕ) → a ≤ n → b - a - (n - a) ≡ b - n
+taken-in-two a b n h = omega arith
+
+free-in-two : (old between new : ℕ) → between - new + (old - max between new) ≡ max old between - new
+free-in-two old between new = omega arith
+
+max-regroup : (a b c : ℕ) → max a (max b c) ≡ max (max a b) c
+max-regroup a b c = omega arith
+
+-- behind the new entries: 0 in the places that became free, and what stood there before
+pub drop-placed : (n old : ℕ) (new before : List ℕ) → length new ≤ n → drop n (placed old new before) ≡ replicate (old - n) 0 ++ drop (max old n) before
+unfolding placed
+drop-placed n old new before h =
+    rw (
+      drop-append n (new ++ replicate (old - length new) 0) (drop (max old (length new)) before),
+      drop-append n new (replicate (old - length new) 0),
+      drop-of-length-le new h,
+      drop-replicate,
+      drop-drop,
+      length-append,
+      length-replicate,
+      taken-in-two (length new) old n h,
+      grown-to (length new) old,
+      above-both (length new) old n h,
+    )
+
+-- free places next to free places
+free-joined : (new : List ℕ) (a b : ℕ) (behind : List ℕ)
+    → new ++ replicate a 0 ++ (replicate b 0 ++ behind) ≡ new ++ replicate (a + b) 0 ++ behind
+free-joined new a b behind =
+    rw (← append-assoc (new ++ replicate a 0) (replicate b 0) behind, append-assoc new (replicate a 0) (replicate b 0), replicate-append-replicate)
+
+-- one change after another is one change, where the second's old places hold all that the first put there
+pub placed-placed : (old between : ℕ) (first second before : List ℕ) → length first ≤ between
+    → placed between second (placed old first before) ≡ placed (max old between) second before
+unfolding placed
+placed-placed old between first second before h =
+    let size : ℕ = length second in
+    let most : length first ≤ max between size = omega arith in
+    ap (λ (behind : List ℕ). second ++ replicate (between - size) 0 ++ behind) (drop-placed (max between size) old first before most)
+    ∙ free-joined second (between - size) (old - max between size) (drop (max old (max between size)) before)
+    ∙ rw (free-in-two old between size, max-regroup old between size)
+
+-- among the same places: the second change takes the first's place
+pub placed-again : (old : ℕ) (first second before : List ℕ) → length first ≤ old → placed (length first) second (placed old first before) ≡ placed old second before
+placed-again old first second before h =
+    let most : max old (length first) ≡ old = omega arith in
+    placed-placed old (length first) first second before (omega arith) ∙ ap (λ (n : ℕ). placed n second before) most

@@ -1,0 +1,6 @@
+-- Laws of the blocker room, by subject.
+pub mod Over
+pub mod Walks
+pub mod Closing
+pub mod Placing
+pub mod Changes

@@ -1,0 +1,186 @@
+-- A run for every input: its checks, the clearing before it, and its result. Assumes nothing.
+use Prim.Native.Nat.{ℕ, zero, suc, _+_, _-_, _≤_, _<_, max}
+use mathlib.Core.Path.{_≡_, refl, sym, ap, ap₂, subst, _∙_}
+use mathlib.Core.Bool.{Bool, true, false}
+use mathlib.Core.List.{List, [], _∷_, _++_, append-nil}
+use native.Mathlib.Nat.{sub-zero}
+use native.Mathlib.Omega.{arith}
+use borrow.Author.Tests.{eq-eqb, ne-eqb, lt-ltb, le-ltb, ltb-false}
+use lib.Dec.{T, eqb, ltb, eqb→eq}
+use lib.ListN.{length, replicate, length-replicate, drop-of-length-le}
+use Rattle.lists.specs.Tests.{_or_, neg}
+use Rattle.lists.proofs.Tests.{is-false, or-left, or-right, neg-neg}
+use Rattle.automata.specs.Image.{Valid, check, checkImage}
+use Rattle.automata.specs.Answers.{headOf, readWith, readImage}
+use Rattle.automata.specs.declared.image.Head.{Head}
+use Rattle.automata.specs.declared.image.Image.{Image}
+use Rattle.automata.specs.declared.image.Image.the-variants as Answer
+use Rattle.automata.proofs.WordTests.{answer-valid, answer-head}
+use Rattle.machine.specs.Machine.{Configuration, Rooms, byStates, machine, Outcome, nonempty, empty, stepsLack, blockersLack, wordLacks}
+use Rattle.machine.specs.Lent.{column, maskOf, levelOf, placed}
+use Rattle.machine.specs.Runs.{Lent, Result, systemOf, roomsOf, refused, ended, resultOf, oddRooms, oversize, checkRooms, checkRun, outcomeOf, runWith, runOf}
+use Rattle.checker.specs.declared.record.Run.{Run}
+use Rattle.checker.specs.declared.run.Counts.{Counts}
+use Rattle.checker.specs.Whole.{Checked, Cleared, Runnable, lentOf, countsIn, resultWith, machineResult}
+
+-- the rooms' checks, each from the tests before it
+module _ (masks levels cases symbols hints : List ℕ) where
+  pub odd-blockers : (length masks ≡ length levels → ⊥) → 30 ≡ checkRooms (lentOf masks levels cases symbols) hints 0
+  unfolding checkRooms check oddRooms _or_ neg
+  odd-blockers n = rw (ne-eqb _ _ n)
+
+  module _ (even : length masks ≡ length levels) where
+    pub odd-word : (length cases ≡ length symbols → ⊥) → 30 ≡ checkRooms (lentOf masks levels cases symbols) hints 0
+    unfolding checkRooms check oddRooms _or_ neg
+    odd-word n = rw (eq-eqb _ _ even, ne-eqb _ _ n)
+
+    module _ (even-word : length cases ≡ length symbols) where
+      pub over-blockers : 65536 < length masks → 31 ≡ checkRooms (lentOf masks levels cases symbols) hints 0
+      unfolding checkRooms check oddRooms oversize _or_ neg
+      over-blockers l = rw (eq-eqb _ _ even, eq-eqb _ _ even-word, lt-ltb _ _ l)
+
+      module _ (few : length masks ≤ 65536) where
+        pub over-word : 65536 < length cases → 31 ≡ checkRooms (lentOf masks levels cases symbols) hints 0
+        unfolding checkRooms check oddRooms oversize _or_ neg
+        over-word l = rw (eq-eqb _ _ even, eq-eqb _ _ even-word, le-ltb _ _ few, lt-ltb _ _ l)
+
+        module _ (few-word : length cases ≤ 65536) where
+          pub over-hints : 65536 < length hints → 31 ≡ checkRooms (lentOf masks levels cases symbols) hints 0
+          unfolding checkRooms check oddRooms oversize _or_ neg
+          over-hints l = rw (eq-eqb _ _ even, eq-eqb _ _ even-word, le-ltb _ _ few, le-ltb _ _ few-word, lt-ltb _ _ l)
+
+          pub rooms-pass : length hints ≤ 65536 → 0 ≡ checkRooms (lentOf masks levels cases symbols) hints 0
+          unfolding checkRooms check oddRooms oversize _or_ neg
+          rooms-pass l = rw (eq-eqb _ _ even, eq-eqb _ _ even-word, le-ltb _ _ few, le-ltb _ _ few-word, le-ltb _ _ l)
+
+-- in place of a whole table: only its length matters
+placed-all : (new before : List ℕ) → placed (length before) new before ≡ new ++ replicate (length before - length new) 0
+unfolding placed
+placed-all new before =
+    let m : length before ≤ max (length before) (length new) = omega arith in
+    rw (drop-of-length-le before m, append-nil)
+
+zeros : (before : List ℕ) → placed (length before) [] before ≡ replicate (length before) 0
+zeros before = placed-all [] before ∙ ap (λ (k : ℕ). replicate k 0) (sub-zero (length before))
+
+zeros-length : (before after : List ℕ) → after ≡ placed (length before) [] before → length after ≡ length before
+zeros-length before after e = ap length (e ∙ zeros before) ∙ length-replicate (length before) 0
+
+zeros-again : (before after : List ℕ) → after ≡ placed (length before) [] before → after ≡ placed (length after) [] after
+zeros-again before after e = e ∙ zeros before ∙ ap (λ (k : ℕ). replicate k 0) (sym (zeros-length before after e)) ∙ sym (zeros after)
+
+placed-zeros : (before after new : List ℕ) → after ≡ placed (length before) [] before → placed (length after) new after ≡ placed (length before) new before
+placed-zeros before after new e =
+    placed-all new after ∙ ap (λ (k : ℕ). new ++ replicate (k - length new) 0) (zeros-length before after e) ∙ sym (placed-all new before)
+
+module _ {image : List ℕ} {head : Head} {masks levels cases symbols masks′ levels′ cases′ symbols′ : List ℕ}
+    (runnable : Runnable image head masks levels cases symbols) (cleared : Cleared masks levels cases symbols masks′ levels′ cases′ symbols′) where
+  pub cleared-runnable : Runnable image head masks′ levels′ cases′ symbols′
+  cleared-runnable =
+      record {
+        valid = runnable .valid;
+        read = runnable .read;
+        rooms = record {
+          blocker-room = zeros-length masks masks′ (cleared .new-masks) ∙ runnable .rooms .blocker-room ∙ sym (zeros-length levels levels′ (cleared .new-levels));
+          word-room = zeros-length cases cases′ (cleared .new-cases) ∙ runnable .rooms .word-room ∙ sym (zeros-length symbols symbols′ (cleared .new-symbols));
+          few-places = omega (arith, zeros-length cases cases′ (cleared .new-cases), runnable .rooms .few-places);
+        };
+      }
+
+  pub cleared-itself : Cleared masks′ levels′ cases′ symbols′ masks′ levels′ cases′ symbols′
+  cleared-itself =
+      record {
+        new-masks = zeros-again masks masks′ (cleared .new-masks);
+        new-levels = zeros-again levels levels′ (cleared .new-levels);
+        new-cases = zeros-again cases cases′ (cleared .new-cases);
+        new-symbols = zeros-again symbols symbols′ (cleared .new-symbols);
+      }
+
+  -- the result in the cleared tables is the result in those that were lent
+  ended-cleared : (number : ℕ) (word : List ℕ) (c : Configuration) → ended (lentOf masks′ levels′ cases′ symbols′) number word c ≡ ended (lentOf masks levels cases symbols) number word c
+  unfolding ended
+  ended-cleared number word c =
+      rw (
+        placed-zeros masks masks′ (column maskOf (c .table)) (cleared .new-masks),
+        placed-zeros levels levels′ (column levelOf (c .table)) (cleared .new-levels),
+        placed-zeros cases cases′ [] (cleared .new-cases),
+        placed-zeros symbols symbols′ word (cleared .new-symbols),
+      )
+
+  result-cleared : (outcome : Outcome) → resultOf (lentOf masks′ levels′ cases′ symbols′) outcome ≡ resultOf (lentOf masks levels cases symbols) outcome
+  unfolding resultOf
+  result-cleared (empty c) = ended-cleared 0 [] c
+  result-cleared (nonempty word c) = ended-cleared 1 word c
+  result-cleared (stepsLack c) = ended-cleared 2 [] c
+  result-cleared (blockersLack c) = ended-cleared 3 [] c
+  result-cleared (wordLacks c) = ended-cleared 4 [] c
+
+  pub go-is : (hints : List ℕ) (allowance : ℕ) (run : Run) {r : Counts} {end-masks end-levels end-cases end-symbols : List ℕ} → r ≡ countsIn run
+      → resultWith (countsIn run) end-masks end-levels end-cases end-symbols ≡ machineResult image (lentOf masks′ levels′ cases′ symbols′) hints allowance
+      → resultWith r end-masks end-levels end-cases end-symbols ≡ machineResult image (lentOf masks levels cases symbols) hints allowance
+  unfolding machineResult outcomeOf
+  go-is hints allowance run {end-masks = em} {end-levels = el} {end-cases = ec} {end-symbols = es} counts e =
+      ap (λ (x : Counts). resultWith x em el ec es) counts
+      ∙ e
+      ∙ result-cleared (machine (systemOf image) (byStates (systemOf image)) hints (roomsOf (lentOf masks′ levels′ cases′ symbols′)) allowance)
+      ∙ ap₂ (λ (b w : ℕ). resultOf (lentOf masks levels cases symbols) (machine (systemOf image) (byStates (systemOf image)) hints (record { blockers = b; word = w }) allowance))
+      (zeros-length masks masks′ (cleared .new-masks)) (zeros-length cases cases′ (cleared .new-cases))
+
+-- what the rooms' checks leave where none applies
+check-fails : (b : Bool) (number later : ℕ) → check b (suc number) later ≡ 0 → (T b → ⊥) × (later ≡ 0)
+unfolding check
+check-fails true number later e = absurd (omega arith)
+check-fails false number later e = (λ t. t, e)
+
+rooms-checked : (masks levels cases symbols hints : List ℕ) → checkRooms (lentOf masks levels cases symbols) hints 0 ≡ 0 → Checked masks levels cases symbols
+unfolding checkRooms oddRooms oversize
+rooms-checked masks levels cases symbols hints e =
+    let odd = check-fails _ _ _ e in
+    let over = check-fails _ _ _ (odd .1) in
+    record {
+      blocker-room = eqb→eq _ _ (neg-neg _ (λ t. odd .0 (or-left _ _ t)));
+      word-room = eqb→eq _ _ (neg-neg _ (λ t. odd .0 (or-right _ _ t)));
+      few-places = ltb-false 65536 (length cases) (is-false _ (λ t. over .0 (or-right _ _ (or-left _ _ t))));
+    }
+
+-- the whole run, by its checks
+module _ (image masks levels cases symbols hints : List ℕ) (allowance : ℕ) (answer : Image) (read : answer ≡ readImage image) where
+  pub run-refuses-image : (number : ℕ) (r : Counts) → answer ≡ Answer.Refused number → r ≡ record { number = number; steps = 0; level = 0; blockers = 0; accepted = 0 }
+      → resultWith r masks levels cases symbols ≡ runOf image (lentOf masks levels cases symbols) hints allowance
+  unfolding runOf checkRun readImage readWith runWith checkRooms refused
+  run-refuses-image number r e q = rw q (at (checkImage image) (sym read ∙ e))
+    where
+      at : (checked : ℕ) → readWith image checked ≡ Answer.Refused number
+          → resultWith (record { number = number; steps = 0; level = 0; blockers = 0; accepted = 0 }) masks levels cases symbols
+          ≡ runWith image (lentOf masks levels cases symbols) hints allowance (checkRooms (lentOf masks levels cases symbols) hints checked)
+      at zero f = let z : _≡_ {A = ℕ} 0 1 = cc in absurd (omega arith)
+      at (suc checked) f = let z : suc checked ≡ number = cc in rw (← z)
+
+  module _ (head : Head) (e : answer ≡ Answer.Valid head) (number : ℕ) (rooms : number ≡ checkRooms (lentOf masks levels cases symbols) hints 0) where
+    checked-is : checkRun image (lentOf masks levels cases symbols) hints ≡ number
+    unfolding checkRun
+    checked-is = ap (checkRooms (lentOf masks levels cases symbols) hints) (answer-valid image answer read head e) ∙ sym rooms
+
+    pub run-refuses-rooms : (r : Counts) → (number ≡ 0 → ⊥) → r ≡ record { number = number; steps = 0; level = 0; blockers = 0; accepted = 0 }
+        → resultWith r masks levels cases symbols ≡ runOf image (lentOf masks levels cases symbols) hints allowance
+    unfolding runOf runWith refused
+    run-refuses-rooms r n q = rw q (at number checked-is n)
+      where
+        at : (k : ℕ) → checkRun image (lentOf masks levels cases symbols) hints ≡ k → (k ≡ 0 → ⊥)
+            → resultWith (record { number = k; steps = 0; level = 0; blockers = 0; accepted = 0 }) masks levels cases symbols
+            ≡ runWith image (lentOf masks levels cases symbols) hints allowance (checkRun image (lentOf masks levels cases symbols) hints)
+        at zero f m = absurd (m refl)
+        at (suc k) f m = rw f
+
+    pub run-runnable : number ≡ 0 → Runnable image head masks levels cases symbols
+    run-runnable z =
+        record {
+          valid = answer-valid image answer read head e;
+          read = answer-head image answer read head e;
+          rooms = rooms-checked masks levels cases symbols hints (sym rooms ∙ z);
+        }
+
+    pub run-goes : (result : Result) → number ≡ 0 → result ≡ machineResult image (lentOf masks levels cases symbols) hints allowance
+        → result ≡ runOf image (lentOf masks levels cases symbols) hints allowance
+    unfolding runOf runWith machineResult
+    run-goes result z made = made ∙ sym (rw (checked-is ∙ z))

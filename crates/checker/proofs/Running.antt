@@ -1,0 +1,49 @@
+-- A whole run: what it begins with, that each step leads on to the machine's outcome, and what stands at its end. Assumes nothing.
+use Prim.Native.Nat.{ℕ, zero, suc, _+_, _-_, _≤_, _<_, max}
+use mathlib.Core.Path.{_≡_, refl, sym, ap, ap₂, subst, _∙_}
+use mathlib.Core.Bool.{Bool, true, false}
+use mathlib.Core.List.{List, [], _∷_, _++_, append-nil}
+use mathlib.Core.Logic.{_⊎_, inl, inr}
+use native.Mathlib.Nat.{sub-zero}
+use native.Mathlib.Omega.{arith}
+use borrow.Author.Tests.{le-leb, lt-leb, eq-eqb, ne-eqb}
+use lib.Dec.{leb, eqb}
+use lib.ListN.{length, take, drop, replicate, length-replicate}
+use Rattle.lists.specs.Tests.{choose}
+use Rattle.masks.specs.Sets.{subset}
+use Rattle.machine.specs.Lent.{columnBack, placed}
+use Rattle.blockers.specs.Room.{over, Holds}
+use Rattle.blockers.specs.Room as Room
+use Rattle.pending.specs.Room.{Holds as HoldsWord, Placed as PlacedWord}
+use Rattle.checker.specs.declared.record.Run.{Run}
+use Rattle.checker.specs.Whole.{Checked, Cleared, startRecord}
+
+-- the start's record, by the test
+pub start-final : (initial finals : ℕ) (b : Bool) → b ≡ subset initial finals → b ≡ true
+    → record { answer = 1; steps = 0; level = record { 0 = 0 }; opened = false; held = 0; pending = 0; blocks = 0; accepted = 0 } ≡ startRecord initial finals
+unfolding startRecord choose
+start-final initial finals b e t = rw (← e, t)
+
+pub start-works : (initial finals : ℕ) (b : Bool) → b ≡ subset initial finals → b ≡ false
+    → record { answer = 6; steps = 0; level = record { 0 = 0 }; opened = false; held = 0; pending = 0; blocks = 0; accepted = 0 } ≡ startRecord initial finals
+unfolding startRecord choose
+start-works initial finals b e t = rw (← e, t)
+
+-- a table of which every place was cleared
+all-cleared : (before : List ℕ) → over (take 0 before ++ replicate (length before - 0) 0) before ≡ placed (length before) [] before
+unfolding over placed
+all-cleared before =
+    let most : max (length before) 0 ≡ length before = omega arith in
+    rw (length-replicate, sub-zero, most)
+
+pub cleared-is : {masks levels cases symbols masks′ levels′ cases′ symbols′ : List ℕ} → Checked masks levels cases symbols
+    → Room.Cleared 0 (length masks) masks levels masks′ levels′ → PlacedWord (length cases) [] cases symbols cases′ symbols′
+    → Cleared masks levels cases symbols masks′ levels′ cases′ symbols′
+unfolding columnBack
+cleared-is {masks} {levels} {cases} {symbols} checked blockers word =
+    record {
+      new-masks = blockers .new-masks ∙ all-cleared masks;
+      new-levels = blockers .new-levels ∙ ap (λ (k : ℕ). over (take 0 levels ++ replicate (k - 0) 0) levels) (checked .blocker-room) ∙ all-cleared levels;
+      new-cases = word .new-cases;
+      new-symbols = word .new-symbols ∙ ap (λ (k : ℕ). placed k [] symbols) (checked .word-room);
+    }

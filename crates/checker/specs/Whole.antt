@@ -1,0 +1,75 @@
+-- A whole run: what it begins with, and its five numbers as 01's result. Assumes nothing: these are definitions.
+use Prim.Native.Nat.{ℕ, _≤_}
+use mathlib.Core.Path.{_≡_}
+use mathlib.Core.Bool.{Bool, true, false}
+use mathlib.Core.List.{List, []}
+use lib.ListN.{length}
+use Rattle.lists.specs.Tests.{choose}
+use Rattle.masks.specs.Sets.{subset}
+use Rattle.automata.specs.Image.{Valid}
+use Rattle.automata.specs.Answers.{headOf}
+use Rattle.automata.specs.declared.image.Head.{Head}
+use Rattle.machine.specs.Lent.{placed}
+use Rattle.machine.specs.Runs.{Lent, Result, resultOf, outcomeOf}
+use Rattle.checker.specs.declared.record.Run.{Run}
+use Rattle.checker.specs.declared.run.Counts.{Counts}
+
+abbrev pub lentOf : List ℕ → List ℕ → List ℕ → List ℕ → Lent
+lentOf masks levels cases symbols = record { masks = masks; levels = levels; cases = cases; symbols = symbols }
+
+-- the five numbers of a record
+abbrev pub countsIn : Run → Counts
+countsIn run = record {
+  number = run .answer;
+  steps = run .steps;
+  level = run .level .0;
+  blockers = run .held;
+  accepted = run .accepted;
+}
+
+-- the five numbers with what the tables hold
+abbrev pub resultWith : Counts → List ℕ → List ℕ → List ℕ → List ℕ → Result
+resultWith counts masks levels cases symbols = record {
+  number = counts .number;
+  steps = counts .steps;
+  level = counts .level;
+  blockers = counts .blockers;
+  accepted = counts .accepted;
+  tables = lentOf masks levels cases symbols;
+}
+
+-- the rooms have passed their checks
+pub record Checked (masks levels cases symbols : List ℕ) : Type 0 where
+  pub blocker-room : length masks ≡ length levels
+  pub word-room : length cases ≡ length symbols
+  pub few-places : length cases ≤ 65536
+
+-- every place holds 0
+pub record Cleared (masks levels cases symbols masks′ levels′ cases′ symbols′ : List ℕ) : Type 0 where
+  pub new-masks : masks′ ≡ placed (length masks) [] masks
+  pub new-levels : levels′ ≡ placed (length levels) [] levels
+  pub new-cases : cases′ ≡ placed (length cases) [] cases
+  pub new-symbols : symbols′ ≡ placed (length symbols) [] symbols
+
+-- "Start: if I is a subset of F, answer 1 with the empty word and 0 steps. Otherwise steps follow", with the level 0, no blockers and nothing pending
+unfoldable pub startRecord : ℕ → ℕ → Run
+startRecord initial finals = record {
+  answer = choose (subset initial finals) 1 6;
+  steps = 0;
+  level = record { 0 = 0 };
+  opened = false;
+  held = 0;
+  pending = 0;
+  blocks = 0;
+  accepted = 0;
+}
+
+-- what the machine's run needs: a valid image's head, and rooms that have passed their checks
+pub record Runnable (image : List ℕ) (head : Head) (masks levels cases symbols : List ℕ) : Type 0 where
+  pub valid : Valid image
+  pub read : head ≡ headOf image
+  pub rooms : Checked masks levels cases symbols
+
+-- the result of the machine's run in these rooms
+unfoldable pub machineResult : List ℕ → Lent → List ℕ → ℕ → Result
+machineResult image lent hints allowance = resultOf lent (outcomeOf image lent hints allowance)

@@ -1,0 +1,171 @@
+// A whole run, for every input: check, clear, begin, then steps until the record says that it has ended.
+use crate::record::Run;
+use crate::steps::step;
+use automata::image::Head;
+use automata::image::Image;
+use blockers::Level;
+ghost use mathlib.Core.Path.{_≡_};
+ghost use Rattle.machine.specs.Runs.{checkRooms, runOf};
+ghost use Rattle.checker.specs.Whole.{Checked, Cleared, Runnable, startRecord, lentOf, countsIn, resultWith, machineResult};
+
+// The five numbers of a run.
+pub struct Counts {
+    pub number: u64,
+    pub steps: u64,
+    pub level: u64,
+    pub blockers: u64,
+    pub accepted: u64,
+}
+
+// A run that is refused: the number, and four zeros.
+fn refuse(number: u64) -> Counts
+    ensures { λ r. ⌜ r ≡ record { number = number; steps = 0; level = 0; blockers = 0; accepted = 0 } ⌝ }
+{
+    Counts {
+        number,
+        steps: 0,
+        level: 0,
+        blockers: 0,
+        accepted: 0,
+    }
+}
+
+// The start: 1 with the empty word where I is a subset of F, else a run that works.
+fn begin(head: Head) -> Run
+    ensures { λ r. ⌜ r ≡ startRecord (head .initial) (head .finals) ⌝ }
+{
+    let mut answer: u8 = 6;
+    if masks::subset(head.initial, head.finals) {
+        answer = 1;
+    }
+    Run {
+        answer,
+        steps: 0,
+        level: Level(0),
+        opened: false,
+        held: 0,
+        pending: 0,
+        blocks: 0,
+        accepted: 0,
+    }
+}
+
+// Every place of the four tables becomes 0.
+fn clear(masks: &mut [u64], levels: &mut [u32], cases: &mut [u64], symbols: &mut [u8])
+    requires { ⌜ Checked (now masks) (now levels) (now cases) (now symbols) ⌝ }
+    ensures { λ _. ⌜ Cleared (now (masks .entry)) (now (levels .entry)) (now (cases .entry)) (now (symbols .entry)) (now (masks .exit)) (now (levels .exit)) (now (cases .exit)) (now (symbols .exit)) ⌝ }
+{
+    blockers::clear(masks, levels, 0, masks.len());
+    pending::clear(cases, symbols, cases.len());
+}
+
+// 0, or 30 where the two tables of one room differ in length, or 31 where a room or the hint table has over 65,536 places.
+fn check_rooms(masks: &[u64], levels: &[u32], cases: &[u64], symbols: &[u8], hints: &[u64]) -> u64
+    ensures { λ r. ⌜ r ≡ checkRooms (lentOf (now (masks .entry)) (now (levels .entry)) (now (cases .entry)) (now (symbols .entry))) (now (hints .entry)) 0 ⌝ }
+{
+    if masks.len() != levels.len() {
+        return 30;
+    }
+    if cases.len() != symbols.len() {
+        return 30;
+    }
+    if 65536 < masks.len() {
+        return 31;
+    }
+    if 65536 < cases.len() {
+        return 31;
+    }
+    if 65536 < hints.len() {
+        return 31;
+    }
+    0
+}
+
+// Steps until the run has ended, in tables that hold only 0.
+fn drive(
+    image: &[u8],
+    head: Head,
+    masks: &mut [u64],
+    levels: &mut [u32],
+    cases: &mut [u64],
+    symbols: &mut [u8],
+    hints: &[u64],
+    allowance: u64,
+) -> Run
+    requires { ⌜ Runnable (now image) head (now masks) (now levels) (now cases) (now symbols) × Cleared (now masks) (now levels) (now cases) (now symbols) (now masks) (now levels) (now cases) (now symbols) ⌝ }
+    ensures { λ r. ⌜ resultWith (countsIn r) (now (masks .exit)) (now (levels .exit)) (now (cases .exit)) (now (symbols .exit))
+        ≡ machineResult (now (image .entry)) (lentOf (now (masks .entry)) (now (levels .entry)) (now (cases .entry)) (now (symbols .entry))) (now (hints .entry)) allowance ⌝ }
+{
+    let mut run = begin(head);
+    while run.answer == 6 {
+        run = step(
+            image,
+            head,
+            masks,
+            levels,
+            cases,
+            symbols,
+            hints,
+            run,
+            allowance,
+        );
+    }
+    run
+}
+
+// The five numbers of a run that has ended.
+fn count_up(run: Run) -> Counts
+    ensures { λ r. ⌜ r ≡ countsIn run ⌝ }
+{
+    Counts {
+        number: run.answer as u64,
+        steps: run.steps,
+        level: run.level.0 as u64,
+        blockers: run.held as u64,
+        accepted: run.accepted,
+    }
+}
+
+// The run on a valid image in rooms that were checked.
+fn go(
+    image: &[u8],
+    head: Head,
+    masks: &mut [u64],
+    levels: &mut [u32],
+    cases: &mut [u64],
+    symbols: &mut [u8],
+    hints: &[u64],
+    allowance: u64,
+) -> Counts
+    requires { ⌜ Runnable (now image) head (now masks) (now levels) (now cases) (now symbols) ⌝ }
+    ensures { λ r. ⌜ resultWith r (now (masks .exit)) (now (levels .exit)) (now (cases .exit)) (now (symbols .exit))
+        ≡ machineResult (now (image .entry)) (lentOf (now (masks .entry)) (now (levels .entry)) (now (cases .entry)) (now (symbols .entry))) (now (hints .entry)) allowance ⌝ }
+{
+    clear(masks, levels, cases, symbols);
+    count_up(drive(image, head, masks, levels, cases, symbols, hints, allowance))
+}
+
+// A run: refused under the number of the first check that applies, with every table as it was; else the machine's run, in the lent rooms.
+pub fn run(
+    image: &[u8],
+    masks: &mut [u64],
+    levels: &mut [u32],
+    cases: &mut [u64],
+    symbols: &mut [u8],
+    hints: &[u64],
+    allowance: u64,
+) -> Counts
+    ensures { λ r. ⌜ resultWith r (now (masks .exit)) (now (levels .exit)) (now (cases .exit)) (now (symbols .exit))
+        ≡ runOf (now (image .entry)) (lentOf (now (masks .entry)) (now (levels .entry)) (now (cases .entry)) (now (symbols .entry))) (now (hints .entry)) allowance ⌝ }
+{
+    match automata::image::read_image(image) {
+        Image::Refused(number) => refuse(number as u64),
+        Image::Valid(head) => {
+            let number = check_rooms(masks, levels, cases, symbols, hints);
+            if number != 0 {
+                return refuse(number);
+            }
+            go(image, head, masks, levels, cases, symbols, hints, allowance)
+        }
+    }
+}

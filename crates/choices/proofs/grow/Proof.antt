@@ -1,0 +1,43 @@
+use borrow.Author.Needs.{needs}
+use Prim.Native.Nat.{_-_}
+use Rattle.choices.proofs.Growing.{StatesTried, states-start, state-fits, states-go, states-end}
+use Rattle.choices.proofs.grow.Statement.{statement}
+use Rattle.choices.proofs.grow.Tie as tie
+use Rattle.choices.proofs.grow.Reads as reads
+use Rattle.choices.proofs.grow.Lts as lts
+use Rattle.choices.proofs.with_state.Reads as with-state-reads
+
+abbrev Inv-loop : tie.InvT-loop
+Inv-loop image head masks levels held below x y₀ q₀ y q = StatesTried image masks levels held (below .0) x (head .states) q y
+
+abbrev μ-loop : tie.MeasureT-loop
+μ-loop image head masks levels held below x y₀ q₀ y q = head .states - q
+
+-- src/lib.rt:125:5
+loop-holds : tie.Need-loop-holds Inv-loop μ-loop
+loop-holds c = search (states-start, needs)
+
+-- src/lib.rt:126:9
+with-state-requires : tie.Need-with-state-requires Inv-loop μ-loop
+with-state-requires c κs = search (state-fits, needs)
+
+-- src/lib.rt:127:9
+add-q : tie.Need-add-q Inv-loop μ-loop
+add-q c = search needs
+
+-- src/lib.rt:125:5
+loop-less : tie.Need-loop-less Inv-loop μ-loop
+loop-less c = search needs
+
+-- src/lib.rt:125:5
+loop-again : tie.Need-loop-again Inv-loop μ-loop
+loop-again c = search (states-go, needs)
+
+-- src/lib.rt:119:1
+returns : tie.Need-returns Inv-loop μ-loop
+returns c = search (states-end, needs)
+
+pub grow-spec : {M : Type 1} → statement M
+grow-spec =
+    tie.close
+    (tie.spec Inv-loop μ-loop loop-holds with-state-requires add-q loop-less loop-again returns)

@@ -1,0 +1,98 @@
+use borrow.Author.Needs.{needs}
+use Prim.Native.Nat.{_-_}
+use Rattle.machine.specs.Runs.{systemOf}
+use Rattle.blockers.specs.Room.{tableOf}
+use Rattle.choices.specs.Found.{settled}
+use Rattle.choices.proofs.Symbols.{EachTried, each-starts, each-known, each-goes}
+use Rattle.choices.proofs.Passing.{pass-lacks, pass-initial, pass-beyond, pass-unsettled, pass-settled}
+use Rattle.choices.proofs.passes.Statement.{statement}
+use Rattle.choices.proofs.passes.Tie as tie
+use Rattle.choices.proofs.passes.Reads as reads
+use Rattle.choices.proofs.passes.Lts as lts
+use Rattle.automata.proofs.backward.backward.Reads as backward-reads
+use Rattle.choices.proofs.settled.Reads as settled-reads
+use Rattle.masks.proofs.subset.Reads as subset-reads
+use Rattle.masks.proofs.within.Reads as within-reads
+
+abbrev Inv-loop : tie.InvT-loop
+Inv-loop image head masks levels held below x y s₀ s = EachTried image (settled (systemOf image) (tableOf held masks levels) (below .0) y) y (head .symbols) s
+
+abbrev μ-loop : tie.MeasureT-loop
+μ-loop image head masks levels held below x y s₀ s = head .symbols - s
+
+-- src/lib.rt:83:9
+subset-requires : tie.Need-subset-requires Inv-loop μ-loop
+subset-requires c κs = search needs
+
+-- src/lib.rt:84:9
+returns : tie.Need-returns Inv-loop μ-loop
+returns c = search (pass-lacks, needs)
+
+-- src/lib.rt:86:8
+subset-requires-2 : tie.Need-subset-requires-2 Inv-loop μ-loop
+subset-requires-2 c κs = search needs
+
+-- src/lib.rt:87:9
+returns-2 : tie.Need-returns-2 Inv-loop μ-loop
+returns-2 c = search (pass-initial, needs)
+
+-- src/lib.rt:89:9
+within-requires : tie.Need-within-requires Inv-loop μ-loop
+within-requires c κs = search needs
+
+-- src/lib.rt:90:9
+returns-3 : tie.Need-returns-3 Inv-loop μ-loop
+returns-3 c = search (pass-beyond, needs)
+
+-- src/lib.rt:93:5
+loop-holds : tie.Need-loop-holds Inv-loop μ-loop
+loop-holds c = search (each-starts, needs)
+
+-- src/lib.rt:94:13
+backward-requires : tie.Need-backward-requires Inv-loop μ-loop
+backward-requires c κs = search (each-known, needs)
+
+-- src/lib.rt:95:13
+settled-requires : tie.Need-settled-requires Inv-loop μ-loop
+settled-requires c κs = search needs
+
+-- src/lib.rt:96:13
+returns-4 : tie.Need-returns-4 Inv-loop μ-loop
+returns-4 c = search (pass-unsettled, needs)
+
+-- src/lib.rt:98:9
+add-s : tie.Need-add-s Inv-loop μ-loop
+add-s c = search needs
+
+-- src/lib.rt:93:5
+loop-less : tie.Need-loop-less Inv-loop μ-loop
+loop-less c = search needs
+
+-- src/lib.rt:93:5
+loop-again : tie.Need-loop-again Inv-loop μ-loop
+loop-again c = search (each-goes, needs)
+
+-- src/lib.rt:79:1
+returns-5 : tie.Need-returns-5 Inv-loop μ-loop
+returns-5 c = search (pass-settled, needs)
+
+pub passes-spec : {M : Type 1} → statement M
+passes-spec =
+    tie.close
+    (tie.spec
+    Inv-loop
+    μ-loop
+    subset-requires
+    returns
+    subset-requires-2
+    returns-2
+    within-requires
+    returns-3
+    loop-holds
+    backward-requires
+    settled-requires
+    returns-4
+    add-s
+    loop-less
+    loop-again
+    returns-5)

@@ -1,0 +1,209 @@
+-- The walk along the table at one level: what it has passed and what is ahead of it are parts of the table as it stands. Assumes nothing.
+use Prim.Native.Nat.{ℕ, zero, suc, _+_, _-_, _≤_, _<_}
+use mathlib.Core.Path.{_≡_, refl, sym, ap, ap₂, _∙_}
+use mathlib.Core.Bool.{Bool, true, false}
+use mathlib.Core.List.{List, [], _∷_, _++_, append-nil}
+use native.Mathlib.Nat.{sub-zero}
+use native.Mathlib.Omega.{arith}
+use lib.ListN.{length, getD}
+use Rattle.lists.specs.Tests.{neg}
+use Rattle.lists.proofs.Lists.{keep-length}
+use Rattle.automata.specs.declared.image.Head.{Head}
+use Rattle.machine.specs.System.{System}
+use Rattle.machine.specs.Machine.{Blocker, leaves, staying, rises, risen, riseAlong}
+use Rattle.machine.specs.Lent.{blockersFrom}
+use Rattle.machine.specs.Runs.{systemOf}
+use Rattle.blockers.specs.Room.{tableOf, blockerAt, risenTable, RisesAt}
+use Rattle.blockers.proofs.Walks.{next-blocker, no-blocker}
+use Rattle.blockers.proofs.Changes.{risen-passed, risen-ahead}
+use Rattle.choices.specs.Found.{Given}
+use Rattle.choices.proofs.Passing.{rise-other}
+use Rattle.closing.specs.Close.{Becomes}
+use Rattle.closing.proofs.Composing.{becomes-own, becomes-table, becomes-masks-length, becomes-levels-length, becomes-holds, becomes-further, becomes-same}
+
+-- one turn, by whether the blocker rises
+module _ (S : System) (turns j : ℕ) (passed : List Blocker) (blocker : Blocker) (ahead : List Blocker) where
+  turn-rises : rises S (passed ++ blocker ∷ ahead) j blocker ≡ true
+      → riseAlong S (suc turns) j passed (blocker ∷ ahead)
+      ≡ riseAlong S turns j (staying (risen blocker) passed ++ risen blocker ∷ []) (staying (risen blocker) ahead)
+  unfolding riseAlong
+  turn-rises e = rw (e, riseAlong)
+
+  turn-stays : rises S (passed ++ blocker ∷ ahead) j blocker ≡ false
+      → riseAlong S (suc turns) j passed (blocker ∷ ahead) ≡ riseAlong S turns j (passed ++ blocker ∷ []) ahead
+  unfolding riseAlong
+  turn-stays e = rw (e, riseAlong)
+
+-- nothing is ahead
+turns-end : (S : System) (turns j : ℕ) (passed : List Blocker) → riseAlong S turns j passed [] ≡ passed
+unfolding riseAlong
+turns-end S zero j passed = append-nil passed
+turns-end S (suc turns) j passed = refl
+
+-- no more blockers are ahead than were
+staying-length : (Y : Blocker) (table : List Blocker) → length (staying Y table) ≤ length table
+unfolding staying
+staying-length Y table = keep-length (λ blocker. neg (leaves Y blocker)) table
+
+-- a turn for each blocker ahead is enough
+turns-enough : (S : System) (turns more j : ℕ) (passed ahead : List Blocker) → length ahead ≤ turns → length ahead ≤ more
+    → riseAlong S turns j passed ahead ≡ riseAlong S more j passed ahead
+turns-enough S zero more j passed [] l h = turns-end S 0 j passed ∙ sym (turns-end S more j passed)
+turns-enough S zero more j passed (blocker ∷ ahead) l h = absurd (omega arith)
+turns-enough S (suc turns) more j passed [] l h = turns-end S (suc turns) j passed ∙ sym (turns-end S more j passed)
+turns-enough S (suc turns) zero j passed (blocker ∷ ahead) l h = absurd (omega arith)
+turns-enough S (suc turns) (suc more) j passed (blocker ∷ ahead) l h =
+    at (λ u v s t. turns-enough S turns more j u v s t) (rises S (passed ++ blocker ∷ ahead) j blocker) refl
+  where
+    at : ((u v : List Blocker) → length v ≤ turns → length v ≤ more → riseAlong S turns j u v ≡ riseAlong S more j u v)
+        → (b : Bool) → rises S (passed ++ blocker ∷ ahead) j blocker ≡ b
+        → riseAlong S (suc turns) j passed (blocker ∷ ahead) ≡ riseAlong S (suc more) j passed (blocker ∷ ahead)
+    at rec true e =
+        let short : length (staying (risen blocker) ahead) ≤ length ahead = staying-length (risen blocker) ahead in
+        turn-rises S turns j passed blocker ahead e
+        ∙ rec (staying (risen blocker) passed ++ risen blocker ∷ []) (staying (risen blocker) ahead) (omega arith) (omega arith)
+        ∙ sym (turn-rises S more j passed blocker ahead e)
+    at rec false e =
+        turn-stays S turns j passed blocker ahead e
+        ∙ rec (passed ++ blocker ∷ []) ahead (omega arith) (omega arith)
+        ∙ sym (turn-stays S more j passed blocker ahead e)
+
+-- the walk with a turn for each blocker ahead
+unfoldable pub along : System → ℕ → List Blocker → List Blocker → List Blocker
+along S j passed ahead = riseAlong S (length ahead) j passed ahead
+
+module _ (S : System) (j : ℕ) (passed : List Blocker) where
+  along-ends : along S j passed [] ≡ passed
+  unfolding along
+  along-ends = turns-end S 0 j passed
+
+  module _ (blocker : Blocker) (ahead : List Blocker) where
+    along-rises : rises S (passed ++ blocker ∷ ahead) j blocker ≡ true
+        → along S j passed (blocker ∷ ahead) ≡ along S j (staying (risen blocker) passed ++ risen blocker ∷ []) (staying (risen blocker) ahead)
+    unfolding along
+    along-rises e =
+        let short : length (staying (risen blocker) ahead) ≤ length ahead = staying-length (risen blocker) ahead in
+        turn-rises S (length ahead) j passed blocker ahead e
+        ∙ turns-enough S (length ahead) (length (staying (risen blocker) ahead)) j (staying (risen blocker) passed ++ risen blocker ∷ [])
+        (staying (risen blocker) ahead) short (omega arith)
+
+    along-stays : rises S (passed ++ blocker ∷ ahead) j blocker ≡ false
+        → along S j passed (blocker ∷ ahead) ≡ along S j (passed ++ blocker ∷ []) ahead
+    unfolding along
+    along-stays e = turn-stays S (length ahead) j passed blocker ahead e
+
+-- blockers and those right behind them
+blockers-split : (masks levels : List ℕ) (first second at : ℕ)
+    → blockersFrom masks levels first at ++ blockersFrom masks levels second (at + first) ≡ blockersFrom masks levels (first + second) at
+unfolding blockersFrom
+blockers-split masks levels zero second at =
+    let e : second ≡ zero + second = omega arith in
+    let s : at + zero ≡ at = omega arith in
+    ap (λ (k : ℕ). blockersFrom masks levels second k) s ∙ ap (λ (k : ℕ). blockersFrom masks levels k at) e
+blockers-split masks levels (suc first) second at =
+    let e : at + suc first ≡ suc at + first = omega arith in
+    let s : suc first + second ≡ suc (first + second) = omega arith in
+    rw (e, s) (ap (λ (rest : List Blocker). blockerAt masks levels at ∷ rest) (blockers-split masks levels first second (suc at)))
+
+-- the table as it stands, apart at a place
+table-apart : (masks levels : List ℕ) (held place : ℕ) → place < held
+    → blockersFrom masks levels place 0 ++ blockerAt masks levels place ∷ blockersFrom masks levels (held - (place + 1)) (place + 1)
+    ≡ tableOf held masks levels
+table-apart masks levels held place l =
+    let e : place + (held - place) ≡ held = omega arith in
+    let s : place ≡ 0 + place = omega arith in
+    ap (λ (rest : List Blocker). blockersFrom masks levels place 0 ++ rest) (sym (next-blocker masks levels held place l))
+    ∙ ap (λ (at : ℕ). blockersFrom masks levels place 0 ++ blockersFrom masks levels (held - place) at) s
+    ∙ blockers-split masks levels place (held - place) 0
+    ∙ ap (λ (count : ℕ). tableOf count masks levels) e
+
+one-more : (masks levels : List ℕ) (place : ℕ)
+    → blockersFrom masks levels place 0 ++ blockerAt masks levels place ∷ [] ≡ blockersFrom masks levels (place + 1) 0
+unfolding blockersFrom
+one-more masks levels place =
+    let s : place ≡ 0 + place = omega arith in
+    ap (λ (at : ℕ). blockersFrom masks levels place 0 ++ blockersFrom masks levels 1 at) s ∙ blockers-split masks levels place 1 0
+
+-- The walk at level j before a place: the table as it stands took the first one's place, and what the walk makes of it is what it makes of the first.
+pub record Walked (image : List ℕ) (head : Head) (first-masks first-levels : List ℕ) (held j count place : ℕ) (masks levels : List ℕ) : Type 0 where
+  pub within : place ≤ count
+  pub given : Given image head masks levels count
+  pub long-masks : length masks ≡ length first-masks
+  pub long-levels : length levels ≡ length first-levels
+  pub becomes : Becomes held (tableOf count masks levels) first-masks first-levels count masks levels
+  pub left : along (systemOf image) j (blockersFrom masks levels place 0) (blockersFrom masks levels (count - place) place)
+      ≡ riseAlong (systemOf image) (length (tableOf held first-masks first-levels)) j [] (tableOf held first-masks first-levels)
+
+pub walk-starts : {image : List ℕ} {head : Head} {masks levels : List ℕ} {held j : ℕ} → Given image head masks levels held
+    → Walked image head masks levels held j held 0 masks levels
+unfolding along blockersFrom
+walk-starts {image} {head} {masks} {levels} {held} {j} given = record {
+  within = omega arith;
+  given = given;
+  long-masks = refl;
+  long-levels = refl;
+  becomes = becomes-own (given .holds);
+  left = ap (λ (count : ℕ). along (systemOf image) j [] (tableOf count masks levels)) (sub-zero held);
+}
+
+module _ {image : List ℕ} {head : Head} {first-masks first-levels : List ℕ} {held j count place : ℕ} {masks levels : List ℕ}
+    (walked : Walked image head first-masks first-levels held j count place masks levels) where
+  pub walk-ends : count ≤ place → Becomes held
+      (riseAlong (systemOf image) (length (tableOf held first-masks first-levels)) j [] (tableOf held first-masks first-levels))
+      first-masks first-levels count masks levels
+  walk-ends l =
+      let all : place ≡ count = omega (arith, walked .within) in
+      becomes-same (walked .becomes)
+      (ap (λ (k : ℕ). tableOf k masks levels) (sym all)
+      ∙ sym (along-ends (systemOf image) j (blockersFrom masks levels place 0))
+      ∙ ap (λ (rest : List Blocker). along (systemOf image) j (blockersFrom masks levels place 0) rest) (sym (no-blocker masks levels count place l))
+      ∙ walked .left)
+
+  module _ (b : Bool) (test : b ≡ rises (systemOf image) (tableOf count masks levels) j (blockerAt masks levels place)) (l : place < count) where
+    next : along (systemOf image) j (blockersFrom masks levels place 0) (blockersFrom masks levels (count - place) place)
+        ≡ along (systemOf image) j (blockersFrom masks levels place 0)
+        (blockerAt masks levels place ∷ blockersFrom masks levels (count - (place + 1)) (place + 1))
+    next = ap (λ (rest : List Blocker). along (systemOf image) j (blockersFrom masks levels place 0) rest) (next-blocker masks levels count place l)
+
+    tested : rises (systemOf image) (blockersFrom masks levels place 0 ++ blockerAt masks levels place ∷ blockersFrom masks levels (count - (place + 1)) (place + 1)) j
+        (blockerAt masks levels place) ≡ b
+    tested = ap (λ (table : List Blocker). rises (systemOf image) table j (blockerAt masks levels place)) (table-apart masks levels count place l) ∙ sym test
+
+    pub walk-passes : b ≡ false → Walked image head first-masks first-levels held j count (place + 1) masks levels
+    walk-passes n = record {
+      within = omega arith;
+      given = walked .given;
+      long-masks = walked .long-masks;
+      long-levels = walked .long-levels;
+      becomes = walked .becomes;
+      left =
+          ap (λ (passed : List Blocker). along (systemOf image) j passed (blockersFrom masks levels (count - (place + 1)) (place + 1)))
+          (sym (one-more masks levels place))
+          ∙ sym (along-stays (systemOf image) j (blockersFrom masks levels place 0) (blockerAt masks levels place)
+          (blockersFrom masks levels (count - (place + 1)) (place + 1)) (tested ∙ n))
+          ∙ sym next
+          ∙ walked .left;
+    }
+
+    pub walk-rises : {count′ place′ : ℕ} {masks′ levels′ : List ℕ} → RisesAt count place masks levels count′ place′ masks′ levels′ → b ≡ true
+        → Walked image head first-masks first-levels held j count′ (place′ + 1) masks′ levels′
+    walk-rises {count′} {place′} {masks′} {levels′} rise n =
+        let change : Becomes count (risenTable count masks levels place) masks levels count′ masks′ levels′ =
+        record { count = rise .count; tables = rise .tables; few = rise .few } in
+        let table : List Blocker = blockersFrom masks levels (count - (place + 1)) (place + 1) in
+        let R : Blocker = risen (blockerAt masks levels place) in
+        record {
+          within = omega (arith, rise .below);
+          given = record { valid = walked .given .valid; read = walked .given .read; holds = becomes-holds change (walked .given .holds) };
+          long-masks = becomes-masks-length change (walked .given .holds .in-masks) ∙ walked .long-masks;
+          long-levels = becomes-levels-length change (walked .given .holds .in-levels) ∙ walked .long-levels;
+          becomes = becomes-further (walked .becomes) (becomes-same change (sym (becomes-table change)));
+          left =
+              ap₂ (λ (passed ahead : List Blocker). along (systemOf image) j passed ahead) (risen-passed rise) (risen-ahead rise)
+              ∙ sym (along-rises (systemOf image) j (blockersFrom masks levels place 0) (blockerAt masks levels place) table (tested ∙ n))
+              ∙ sym next
+              ∙ walked .left;
+        }
+
+  pub walk-other : place < count → (getD levels place 0 ≡ j → ⊥) → Walked image head first-masks first-levels held j count (place + 1) masks levels
+  walk-other l n = walk-passes false (rise-other (walked .given) j place n) l refl

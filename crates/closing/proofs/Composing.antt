@@ -1,0 +1,90 @@
+-- One change of the blocker room after another is a change of what stood there first. Assumes nothing.
+use Prim.Native.Nat.{ℕ, _+_, _-_, _≤_, max}
+use mathlib.Core.Path.{_≡_, refl, sym, ap, subst, _∙_}
+use mathlib.Core.List.{List, _++_, append-assoc}
+use native.Mathlib.Omega.{arith}
+use lib.ListN.{length, drop, replicate, replicate-append-replicate}
+use lib.Seq.{drop-at}
+use Rattle.machine.specs.Machine.{Blocker}
+use Rattle.machine.specs.Lent.{column, maskOf, levelOf, placed}
+use Rattle.blockers.specs.Room.{Holds, tableOf, Placed}
+use Rattle.blockers.proofs.Over.{column-length}
+use Rattle.blockers.proofs.Placing.{blockers-length, same-masks, same-levels, placed-masks-length, placed-levels-length, placed-table}
+use Rattle.closing.specs.Close.{Becomes}
+
+-- entries in place of entries that were placed themselves, no more of them each time
+placed-placed : (old middle : ℕ) (first second before : List ℕ) → middle ≡ length first → length second ≤ middle → middle ≤ old
+    → placed middle second (placed old first before) ≡ placed old second before
+unfolding placed
+placed-placed old middle first second before e s l =
+    let free : List ℕ = replicate (old - length first) 0 in
+    let rest : List ℕ = drop (max old (length first)) before in
+    let top : max middle (length second) ≡ length first = omega arith in
+    let behind : drop (max middle (length second)) (first ++ free ++ rest) ≡ free ++ rest =
+    ap (λ (l : List ℕ). drop (max middle (length second)) l) (append-assoc first free rest) ∙ drop-at first (free ++ rest) (max middle (length second)) (sym top) in
+    let count : (middle - length second) + (old - length first) ≡ old - length second = omega arith in
+    let end : max old (length first) ≡ max old (length second) = omega arith in
+    ap (λ (l : List ℕ). second ++ replicate (middle - length second) 0 ++ l) behind
+    ∙ sym (append-assoc (second ++ replicate (middle - length second) 0) free rest)
+    ∙ ap (λ (l : List ℕ). l ++ rest)
+    (append-assoc second (replicate (middle - length second) 0) free
+    ∙ ap (λ (l : List ℕ). second ++ l) (replicate-append-replicate (middle - length second) (old - length first) 0)
+    ∙ ap (λ (k : ℕ). second ++ replicate k 0) count)
+    ∙ ap (λ (k : ℕ). second ++ replicate (old - length second) 0 ++ drop k before) end
+
+-- The blockers in use stand in their own place.
+pub becomes-own : {held : ℕ} {masks levels : List ℕ} → Holds held masks levels
+    → Becomes held (tableOf held masks levels) masks levels held masks levels
+becomes-own {held} {masks} {levels} holds =
+    let own : Placed held (tableOf held masks levels) masks levels
+    (placed held (column maskOf (tableOf held masks levels)) masks) (placed held (column levelOf (tableOf held masks levels)) levels) =
+    record { new-masks = refl; new-levels = refl } in
+    record {
+      count = sym (blockers-length masks levels held 0);
+      tables = record { new-masks = sym (same-masks holds own); new-levels = sym (same-levels holds own) };
+      few = omega arith;
+    }
+
+module _ {held : ℕ} {table : List Blocker} {masks levels : List ℕ} {held′ : ℕ} {masks′ levels′ : List ℕ}
+    (becomes : Becomes held table masks levels held′ masks′ levels′) where
+  -- the blockers in use are the new ones
+  pub becomes-table : tableOf held′ masks′ levels′ ≡ table
+  becomes-table = ap (λ (count : ℕ). tableOf count masks′ levels′) (becomes .count) ∙ placed-table table (becomes .tables)
+
+  -- they still fit, and both tables are as long as before
+  pub becomes-masks-length : held ≤ length masks → length masks′ ≡ length masks
+  becomes-masks-length l = placed-masks-length table (becomes .tables) l (omega (arith, becomes .count, becomes .few))
+
+  pub becomes-levels-length : held ≤ length levels → length levels′ ≡ length levels
+  becomes-levels-length l = placed-levels-length table (becomes .tables) l (omega (arith, becomes .count, becomes .few))
+
+  pub becomes-holds : Holds held masks levels → Holds held′ masks′ levels′
+  becomes-holds holds = record {
+    in-masks = omega (arith, becomes-masks-length (holds .in-masks), holds .in-masks, becomes .few);
+    in-levels = omega (arith, becomes-levels-length (holds .in-levels), holds .in-levels, becomes .few);
+  }
+
+  -- one change after another
+  pub becomes-further : {table′ : List Blocker} {held″ : ℕ} {masks″ levels″ : List ℕ} → Becomes held′ table′ masks′ levels′ held″ masks″ levels″
+      → Becomes held table′ masks levels held″ masks″ levels″
+  becomes-further {table′} {held″} {masks″} {levels″} further = record {
+    count = further .count;
+    tables = record {
+      new-masks = joined maskOf masks masks′ masks″ (becomes .tables .new-masks) (further .tables .new-masks);
+      new-levels = joined levelOf levels levels′ levels″ (becomes .tables .new-levels) (further .tables .new-levels);
+    };
+    few = omega (arith, further .few, becomes .few);
+  }
+    where
+      joined : (field : Blocker → ℕ) (before between after : List ℕ) → between ≡ placed held (column field table) before
+          → after ≡ placed held′ (column field table′) between → after ≡ placed held (column field table′) before
+      joined field before between after e f =
+          f
+          ∙ ap (λ (l : List ℕ). placed held′ (column field table′) l) e
+          ∙ placed-placed held held′ (column field table) (column field table′) before
+          (omega (arith, becomes .count, column-length field table))
+          (omega (arith, further .count, further .few, column-length field table′))
+          (becomes .few)
+
+  pub becomes-same : {table′ : List Blocker} → table ≡ table′ → Becomes held table′ masks levels held′ masks′ levels′
+  becomes-same e = subst (λ (t : List Blocker). Becomes held t masks levels held′ masks′ levels′) e becomes

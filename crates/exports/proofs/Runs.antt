@@ -1,0 +1,14 @@
+-- What afa_run gives back is the run's result. Assumes nothing.
+use Prim.Native.Nat.{ℕ}
+use mathlib.Core.Path.{_≡_, refl, ap}
+use mathlib.Core.List.{List, [], _∷_}
+use Rattle.machine.specs.Runs.{Lent, Result}
+use Rattle.checker.specs.Whole.{lentOf, resultWith}
+use Rattle.checker.specs.declared.run.Counts.{Counts}
+use Rattle.exports.specs.Interface.{countsOf, Ran}
+
+pub ran-is : (made : Counts) (masks levels cases symbols : List ℕ) (result : Result) → resultWith made masks levels cases symbols ≡ result
+    → Ran (made .number) (made .steps ∷ made .level ∷ made .blockers ∷ made .accepted ∷ []) masks levels cases symbols result
+unfolding countsOf
+ran-is made masks levels cases symbols result e =
+    record { numbered = ap (λ (x : Result). x .number) e; counted = ap countsOf e; tables = ap (λ (x : Result). x .tables) e }

@@ -1,0 +1,2 @@
+-- Laws of the word room.
+pub mod WordRoom

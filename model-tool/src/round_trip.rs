@@ -1,0 +1,93 @@
+//! Tests: a model keeps its image on the way to text and back.
+
+use crate::image;
+use crate::model::{Case, Model, Names, Row, State};
+use crate::text;
+use std::fs;
+use std::path::Path;
+
+/// A small generator of random numbers (splitmix64), always from the same seed.
+struct Random(u64);
+
+impl Random {
+    fn number(&mut self) -> u64 {
+        self.0 = self.0.wrapping_add(0x9e37_79b9_7f4a_7c15);
+        let mut mixed = self.0;
+        mixed = (mixed ^ (mixed >> 30)).wrapping_mul(0xbf58_476d_1ce4_e5b9);
+        mixed = (mixed ^ (mixed >> 27)).wrapping_mul(0x94d0_49bb_1331_11eb);
+        mixed ^ (mixed >> 31)
+    }
+
+    fn below(&mut self, bound: usize) -> usize {
+        (self.number() % bound as u64) as usize
+    }
+
+    fn case(&mut self, state_count: usize) -> Case {
+        Case(self.number() & self.number() & (u64::MAX >> (64 - state_count)))
+    }
+
+    fn names(&mut self, count: usize) -> Names {
+        if self.below(2) == 0 {
+            return Names::numbered(count);
+        }
+        let names = (0..count).map(|number| format!("name-{number}_{}", self.below(100)));
+        Names::new(names.collect())
+    }
+
+    fn model(&mut self) -> Model {
+        let state_count = 1 + self.below(64);
+        let event_count = 1 + self.below(64);
+        let mut rows = vec![Vec::new(); event_count];
+        for _ in 0..self.below(4 * event_count) {
+            let state = State(self.below(state_count) as u8);
+            let case = self.case(state_count);
+            rows[self.below(event_count)].push(Row { state, case });
+        }
+        Model {
+            states: self.names(state_count),
+            events: self.names(event_count),
+            initial: self.case(state_count),
+            final_set: self.case(state_count),
+            rows,
+        }
+    }
+}
+
+/// Text to image to text to image.
+fn keeps_its_image(text: &[u8]) {
+    let model = text::read(text).unwrap_or_else(|fault| panic!("{fault}"));
+    let image = image::write(&model);
+    let read = image::read(&image).unwrap_or_else(|refusal| panic!("{refusal}"));
+    assert_eq!(read.rows, model.rows);
+    let again = text::read(text::write(&read).as_bytes());
+    let again = again.unwrap_or_else(|fault| panic!("{fault}"));
+    assert_eq!(again, read);
+    assert_eq!(image::write(&again), image);
+}
+
+#[test]
+fn files_of_models() {
+    let folder = Path::new(env!("CARGO_MANIFEST_DIR")).join("../models");
+    let mut count = 0;
+    for entry in fs::read_dir(folder).expect("the folder models") {
+        let path = entry.unwrap().path();
+        if path.extension().is_none_or(|extension| extension != "txt") {
+            continue;
+        }
+        println!("{}", path.display());
+        keeps_its_image(&fs::read(path).unwrap());
+        count += 1;
+    }
+    assert!(count >= 8);
+}
+
+#[test]
+fn random_models() {
+    let mut random = Random(1);
+    for _ in 0..200 {
+        let model = random.model();
+        let text = text::write(&model);
+        assert_eq!(text::read(text.as_bytes()).as_ref(), Ok(&model));
+        keeps_its_image(text.as_bytes());
+    }
+}

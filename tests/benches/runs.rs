@@ -1,0 +1,189 @@
+//! `afa_run` against the machine written in Rust, as a table in Markdown: `cargo bench`, after the
+//! library was built as for the tests.
+//!
+//! Both run in one process and in turn, on the same image and in rooms of 1,024 places that are
+//! cleared before each run, without hints; clearing and comparing are not timed. Times are the
+//! processor's for this thread, so that what else the machine does counts little. The five numbers
+//! and all tables are compared after each run, and a difference ends the program with an error.
+
+use afa_tests::afa;
+use afa_tests::generate::runs::run_model_of;
+use afa_tests::image::{rings, Model};
+use afa_tests::machine;
+use afa_tests::random::Random;
+use afa_tests::tables::{Answer, Tables};
+use std::ffi::c_int;
+use std::hint::black_box;
+use std::process::ExitCode;
+use std::time::Duration;
+
+extern "C" {
+    fn clock_gettime(clock: c_int, time: *mut Time) -> c_int;
+}
+
+/// The C library's `struct timespec` on x86-64.
+#[repr(C)]
+struct Time {
+    seconds: u64,
+    nanoseconds: u64,
+}
+
+const CLOCK_THREAD_CPUTIME_ID: c_int = 3;
+
+const PLACES: usize = 1024;
+
+/// A round has one run of either side or more, so that it lasts at least so long.
+const ROUND: Duration = Duration::from_millis(40);
+const ROUNDS: usize = 11;
+
+struct Subject {
+    name: String,
+    model: Model,
+    allowance: u64,
+}
+
+fn main() -> ExitCode {
+    println!("| model | answer | library | Rust | library / Rust: median (least to most) |");
+    println!("|---|---|---|---|---|");
+    for subject in subjects() {
+        if let Err(difference) = measure(&subject) {
+            eprintln!("{}: {difference}\n{}", subject.name, subject.model);
+            return ExitCode::FAILURE;
+        }
+    }
+    println!("\n{ROUNDS} rounds each; times are those of one run, the median of the rounds.");
+    ExitCode::SUCCESS
+}
+
+fn subjects() -> Vec<Subject> {
+    let ring_sizes = [&[2, 3, 5][..], &[2, 3, 5, 7]];
+    let rings = ring_sizes.map(|sizes| Subject {
+        name: format!("rings {sizes:?}"),
+        model: rings(sizes),
+        allowance: 1 << 22,
+    });
+    rings.into_iter().chain(random_subjects()).collect()
+}
+
+/// Of the models of 24 to 64 states and 1 to 8 symbols that the seeds 0, 1, 2, .. give, the first 20
+/// whose runs make 1,000 steps or more of the 4,000 allowed. At most 8 may end by the same number,
+/// as most would else fill blocker room.
+fn random_subjects() -> Vec<Subject> {
+    let mut subjects = Vec::new();
+    let mut by_number = [0; 5];
+    for seed in 0.. {
+        let mut random = Random::seeded(seed);
+        let (states, symbols) = (random.within(24..=64), random.within(1..=8));
+        let model = run_model_of(&mut random, states, symbols);
+        let allowance = 4_000;
+        let mut tables = Tables::cleared(PLACES, PLACES);
+        let answer = machine::run(&model.image(), tables.lend(), &[], allowance);
+        let ended_so = &mut by_number[answer.number as usize];
+        if answer.steps < 1_000 || *ended_so == 8 {
+            continue;
+        }
+        *ended_so += 1;
+        let rows = model.row_count();
+        subjects.push(Subject {
+            name: format!("seed {seed}: n {states}, k {symbols}, m {rows}"),
+            model,
+            allowance,
+        });
+        if subjects.len() == 20 {
+            break;
+        }
+    }
+    subjects
+}
+
+/// Prints the subject's line, or answers in what the two sides differ.
+fn measure(subject: &Subject) -> Result<(), String> {
+    let image = subject.model.image();
+    let run_library = |tables: &mut Tables| {
+        let mut counts = [0; 4];
+        let (image, rooms) = (black_box(&image), tables.lend());
+        let number = afa::run::run(image, rooms, &[], subject.allowance, &mut counts);
+        let [steps, level, blockers, hints_accepted] = counts;
+        Answer::of_numbers([number, steps, level, blockers, hints_accepted])
+    };
+    let run_rust = |tables: &mut Tables| {
+        let (image, rooms) = (black_box(&image), tables.lend());
+        machine::run(image, rooms, &[], subject.allowance)
+    };
+    let mut tables = [0, 1].map(|_| Tables::cleared(PLACES, PLACES));
+    let [library_tables, rust_tables] = &mut tables;
+
+    // The first run of either side also tells how many make a round.
+    let (time, answer) = timed(rust_tables, run_rust);
+    timed(library_tables, run_library);
+    let repeats = ROUND.as_nanos().div_ceil(2 * time.as_nanos().max(1)) as u32;
+
+    let (mut library_times, mut rust_times, mut ratios) = (Vec::new(), Vec::new(), Vec::new());
+    for _ in 0..ROUNDS {
+        let (mut library_time, mut rust_time) = (Duration::ZERO, Duration::ZERO);
+        for repeat in 0..repeats {
+            let (library, rust);
+            if repeat % 2 == 0 {
+                library = timed(library_tables, run_library);
+                rust = timed(rust_tables, run_rust);
+            } else {
+                rust = timed(rust_tables, run_rust);
+                library = timed(library_tables, run_library);
+            }
+            if library.1 != rust.1 {
+                return Err(format!("{:?} but in Rust {:?}", library.1, rust.1));
+            }
+            if library_tables != rust_tables {
+                return Err(format!("{:?} with other tables than in Rust", library.1));
+            }
+            library_time += library.0;
+            rust_time += rust.0;
+        }
+        library_times.push(library_time / repeats);
+        rust_times.push(rust_time / repeats);
+        ratios.push(library_time.as_secs_f64() / rust_time.as_secs_f64());
+    }
+    library_times.sort();
+    rust_times.sort();
+    ratios.sort_by(f64::total_cmp);
+    println!(
+        "| {} | {} | {:.1?} | {:.1?} | {:.2} ({:.2} to {:.2}) |",
+        subject.name,
+        five_numbers(&answer),
+        library_times[ROUNDS / 2],
+        rust_times[ROUNDS / 2],
+        ratios[ROUNDS / 2],
+        ratios[0],
+        ratios[ROUNDS - 1]
+    );
+    Ok(())
+}
+
+/// One run in cleared tables.
+fn timed(tables: &mut Tables, run: impl Fn(&mut Tables) -> Answer) -> (Duration, Answer) {
+    tables.masks.fill(0);
+    tables.levels.fill(0);
+    tables.cases.fill(0);
+    tables.symbols.fill(0);
+    let start = processor_time();
+    let answer = black_box(run(black_box(tables)));
+    (processor_time() - start, answer)
+}
+
+fn processor_time() -> Duration {
+    let mut time = Time {
+        seconds: 0,
+        nanoseconds: 0,
+    };
+    // SAFETY: the time is written to a place of its own.
+    let done = unsafe { clock_gettime(CLOCK_THREAD_CPUTIME_ID, &mut time) };
+    assert_eq!(done, 0, "clock_gettime");
+    Duration::from_secs(time.seconds) + Duration::from_nanos(time.nanoseconds)
+}
+
+fn five_numbers(answer: &Answer) -> String {
+    format!(
+        "{} {} {} {} {}",
+        answer.number, answer.steps, answer.level, answer.blockers, answer.hints_accepted
+    )
+}

@@ -1,0 +1,208 @@
+//! `afa_run`, called with every slice in guarded memory. It stands apart from the other functions so
+//! that only those who use it need an archive that has it.
+
+use crate::compare::hexadecimal;
+use crate::fault;
+use crate::guarded::{Edge, ReadOnly, Untouchable, Writable, EDGES};
+use crate::tables::{Answer, Rooms, Tables};
+use std::slice;
+
+mod interface {
+    extern "C" {
+        pub fn afa_run(
+            image: *const u8,
+            image_len: usize,
+            masks: *mut u64,
+            masks_len: usize,
+            levels: *mut u32,
+            levels_len: usize,
+            cases: *mut u64,
+            cases_len: usize,
+            symbols: *mut u8,
+            symbols_len: usize,
+            hints: *const u64,
+            hints_len: usize,
+            allowance: u64,
+            counts: *mut u64,
+        ) -> u64;
+    }
+}
+
+/// `afa_run` on slices as they are, and not on record: the benchmark times it alone.
+pub fn run(
+    image: &[u8],
+    rooms: Rooms,
+    hints: &[u64],
+    allowance: u64,
+    counts: &mut [u64; 4],
+) -> u64 {
+    // SAFETY: the pointers are to as many values as the lengths say.
+    unsafe {
+        interface::afa_run(
+            image.as_ptr(),
+            image.len(),
+            rooms.masks.as_mut_ptr(),
+            rooms.masks.len(),
+            rooms.levels.as_mut_ptr(),
+            rooms.levels.len(),
+            rooms.cases.as_mut_ptr(),
+            rooms.cases.len(),
+            rooms.symbols.as_mut_ptr(),
+            rooms.symbols.len(),
+            hints.as_ptr(),
+            hints.len(),
+            allowance,
+            counts.as_mut_ptr(),
+        )
+    }
+}
+
+/// `afa_run` with four tables and hints of these lengths that may not be touched, for lengths that
+/// must be refused.
+pub fn run_untouchable(
+    image: &[u8],
+    lengths: [usize; 5],
+    memory: &Untouchable,
+    edge: Edge,
+    counts: &mut [u64; 4],
+) -> u64 {
+    let [masks, levels, cases, symbols, hints] = lengths;
+    let shown = lengths.map(usize::to_be_bytes);
+    let lent: [fault::Lent; 2] = [
+        ("image", image),
+        (
+            "lengths of masks, levels, cases, symbols and hints",
+            shown.as_flattened(),
+        ),
+    ];
+    // SAFETY: the pointers are to as many values as the lengths say; whoever touches them ends in a
+    // signal, which is what is tested.
+    fault::on_record("afa_run", &lent, || unsafe {
+        interface::afa_run(
+            image.as_ptr(),
+            image.len(),
+            memory.lend(masks, edge),
+            masks,
+            memory.lend(levels, edge),
+            levels,
+            memory.lend(cases, edge),
+            cases,
+            memory.lend(symbols, edge),
+            symbols,
+            memory.lend(hints, edge),
+            hints,
+            100,
+            counts.as_mut_ptr(),
+        )
+    })
+}
+
+/// What `counts` holds before a call.
+const COUNTS_BEFORE: [u64; 4] = [0x1111, 0x2222, 0x3333, 0x4444];
+
+/// The function with the memory that is lent to it, mapped once and used for every call.
+pub struct Runner {
+    image: ReadOnly,
+    masks: Writable,
+    levels: Writable,
+    cases: Writable,
+    symbols: Writable,
+    hints: ReadOnly,
+    counts: Writable,
+}
+
+impl Runner {
+    /// With room for images of 2^18 bytes and tables of 2^18 places.
+    pub fn new() -> Self {
+        const PLACES: usize = 1 << 18;
+        Runner {
+            image: ReadOnly::with_room(1 << 18),
+            masks: Writable::with_room(PLACES * size_of::<u64>()),
+            levels: Writable::with_room(PLACES * size_of::<u32>()),
+            cases: Writable::with_room(PLACES * size_of::<u64>()),
+            symbols: Writable::with_room(PLACES),
+            hints: ReadOnly::with_room(PLACES * size_of::<u64>()),
+            counts: Writable::with_room(size_of::<[u64; 4]>()),
+        }
+    }
+
+    /// The answer, and what the tables hold after it.
+    pub fn run(
+        &mut self,
+        image: &[u8],
+        before: &Tables,
+        hints: &[u64],
+        allowance: u64,
+    ) -> (Answer, Tables) {
+        let [first, second] = EDGES.map(|edge| self.run_at(edge, image, before, hints, allowance));
+        assert!(
+            first == second,
+            "afa_run answers by where the slices stand: {}, rooms {:?}, allowance {allowance}, \
+             hints {hints:x?}: {:?} and {:?}",
+            hexadecimal(image),
+            before.lengths(),
+            first.0,
+            second.0
+        );
+        first
+    }
+
+    fn run_at(
+        &mut self,
+        edge: Edge,
+        image: &[u8],
+        before: &Tables,
+        hints: &[u64],
+        allowance: u64,
+    ) -> (Answer, Tables) {
+        let image = self.image.lend(image, edge);
+        let masks = self.masks.lend(&before.masks, edge);
+        let levels = self.levels.lend(&before.levels, edge);
+        let cases = self.cases.lend(&before.cases, edge);
+        let symbols = self.symbols.lend(&before.symbols, edge);
+        let hints = self.hints.lend(hints, edge);
+        let counts = self.counts.lend(&COUNTS_BEFORE, edge);
+        let counts: &mut [u64; 4] = counts.try_into().expect("four numbers");
+        let number = {
+            let rooms = Rooms {
+                masks: &mut *masks,
+                levels: &mut *levels,
+                cases: &mut *cases,
+                symbols: &mut *symbols,
+            };
+            let lengths = before.lengths().map(usize::to_be_bytes);
+            let lent: [fault::Lent; 4] = [
+                ("image", image),
+                (
+                    "lengths of masks, levels, cases and symbols",
+                    lengths.as_flattened(),
+                ),
+                ("allowance", &allowance.to_be_bytes()),
+                ("hints, lowest byte first", bytes_of(hints)),
+            ];
+            fault::on_record("afa_run", &lent, || {
+                run(image, rooms, hints, allowance, counts)
+            })
+        };
+        let [steps, level, blockers, hints_accepted] = *counts;
+        let answer = Answer::of_numbers([number, steps, level, blockers, hints_accepted]);
+        let after = Tables {
+            masks: masks.to_vec(),
+            levels: levels.to_vec(),
+            cases: cases.to_vec(),
+            symbols: symbols.to_vec(),
+        };
+        (answer, after)
+    }
+}
+
+fn bytes_of(numbers: &[u64]) -> &[u8] {
+    // SAFETY: these are the same bytes, and any byte is a value.
+    unsafe { slice::from_raw_parts(numbers.as_ptr().cast(), size_of_val(numbers)) }
+}
+
+impl Default for Runner {
+    fn default() -> Self {
+        Runner::new()
+    }
+}

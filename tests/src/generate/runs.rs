@@ -1,0 +1,145 @@
+//! Models whose runs take some steps, and what their runs are lent.
+
+use super::hints::hints;
+use super::{
+    case_by_chance, large_cases, near_permutations, scattered, several_each, size, small_case,
+};
+use crate::image::Model;
+use crate::machine::{observed_run, Event};
+use crate::random::Random;
+use crate::tables::{Answer, Lent, Tables};
+
+pub fn run_model(random: &mut Random) -> Model {
+    if random.below(1_000) == 0 {
+        return run_model_of(random, 64, 64);
+    }
+    let states = match random.below(10) {
+        0..=5 => random.within(2..=12),
+        _ => size(random),
+    };
+    let symbols = match random.below(20) {
+        0 => size(random),
+        1..=10 => random.within(1..=2),
+        _ => random.within(1..=6),
+    };
+    run_model_of(random, states, symbols)
+}
+
+pub fn run_model_of(random: &mut Random, states: usize, symbols: usize) -> Model {
+    let rows = match random.below(10) {
+        0 => scattered(random, states, symbols),
+        1..=5 => near_permutations(random, states, symbols),
+        6..=8 => several_each(random, states, symbols),
+        _ => large_cases(random, states, symbols),
+    };
+    let percent = random.pick(&[20, 50, 80]);
+    let mut final_set = match random.below(4) {
+        0 => small_case(random, states, 3),
+        _ => case_by_chance(random, states, percent),
+    };
+    let initial = match random.below(8) {
+        0 => small_case(random, states, 1),
+        1 => case_by_chance(random, states, 50),
+        _ => small_case(random, states, 5),
+    };
+    // Otherwise a run ends before its first step.
+    if initial != 0 && random.chance(95) {
+        let members: Vec<u32> = (0..64).filter(|state| initial >> state & 1 == 1).collect();
+        final_set &= !(1 << random.pick(&members));
+    }
+    Model {
+        states,
+        initial,
+        final_set,
+        rows,
+    }
+}
+
+/// A number of steps that does not take long: a block tries each state with each row.
+pub fn affordable_steps(model: &Model, row_tests: usize) -> u64 {
+    let block = model.states * model.row_count().max(16);
+    (row_tests / block).max(8) as u64
+}
+
+/// What a run of the machine was like.
+pub struct Earlier {
+    pub answer: Answer,
+    /// The case and the blocker of each block in turn.
+    pub blocks: Vec<(u64, u64)>,
+    /// How many places of blocker room were in use at once.
+    pub most_held: usize,
+}
+
+impl Earlier {
+    /// With places enough.
+    pub fn new(image: &[u8], hints: &[u64], allowance: u64) -> Self {
+        let mut tables = Tables::cleared(4096, 4096);
+        let (mut blocks, mut held, mut most_held) = (Vec::new(), 0, 0);
+        let answer = observed_run(
+            image,
+            tables.lend(),
+            hints,
+            allowance,
+            |event| match event {
+                Event::Blocked {
+                    pending,
+                    blocker,
+                    left,
+                    ..
+                } => {
+                    blocks.push((pending, blocker));
+                    held = held + 1 - left;
+                    most_held = most_held.max(held);
+                }
+                Event::Rose {
+                    left_before,
+                    left_behind,
+                } => held -= left_before + left_behind,
+                _ => {}
+            },
+        );
+        Earlier {
+            answer,
+            blocks,
+            most_held,
+        }
+    }
+}
+
+/// Rooms, hints and an allowance about those that the earlier run used. No run with these takes much
+/// longer than `affordable` steps.
+pub fn lent(random: &mut Random, model: &Model, earlier: &Earlier, affordable: u64) -> Lent {
+    let blocker_room = room(random, earlier.most_held);
+    let word_room = room(random, earlier.answer.level as usize);
+    let hints = hints(random, model, &earlier.blocks);
+    let ends = earlier.answer.is_verdict() && hints.is_empty() || blocker_room.min(word_room) < 8;
+    let steps = earlier.answer.steps;
+    let allowance = match random.below(8) {
+        0 => random.below(6) as u64,
+        1 | 2 => random.below(steps as usize + 1) as u64,
+        3 => steps.saturating_sub(1),
+        4 => steps,
+        5 => steps + 1,
+        _ if ends => random.pick(&[1 << 32, u64::MAX - 1, u64::MAX]),
+        _ => affordable,
+    };
+    Lent {
+        before: Tables::filled(random, blocker_room, word_room),
+        hints,
+        allowance,
+    }
+}
+
+fn room(random: &mut Random, used: usize) -> usize {
+    match random.below(24) {
+        0 => 0,
+        1 => 1,
+        2 => random.within(2..=5),
+        3 | 4 => used.saturating_sub(1),
+        5 => used / 2,
+        6 => random.within(0..=used),
+        7..=11 => used,
+        12 => used + 1,
+        _ => random.within(used..=used + 40),
+    }
+}

@@ -1,0 +1,291 @@
+//! The machine of the scope document, in its order: open, extend, block, close. It works in place on
+//! the tables that a run is lent and allocates nothing. Every test that the document names is made
+//! whenever it is named; nothing that was found is kept from one step to the next.
+
+use crate::checks::check;
+use crate::tables::{Answer, Rooms};
+use automaton::{contains, Automaton};
+use blockers::Blockers;
+
+mod automaton;
+mod blockers;
+
+/// Of a room and of the hint table.
+pub const MOST_PLACES: usize = 65_536;
+
+/// What an observed run tells of its steps.
+#[derive(Clone, Copy, Debug, PartialEq, Eq)]
+pub enum Event {
+    Opened {
+        pending: bool,
+    },
+    Extended {
+        symbol: u8,
+    },
+    Blocked {
+        pending: u64,
+        blocker: u64,
+        by_hint: bool,
+        left: usize,
+        was_full: bool,
+    },
+    Rose {
+        left_before: usize,
+        left_behind: usize,
+    },
+    Closed,
+}
+
+pub fn run(image: &[u8], rooms: Rooms, hints: &[u64], allowance: u64) -> Answer {
+    observed_run(image, rooms, hints, allowance, |_| {})
+}
+
+/// A run on any bytes and in any rooms.
+pub fn observed_run(
+    image: &[u8],
+    rooms: Rooms,
+    hints: &[u64],
+    allowance: u64,
+    observe: impl FnMut(Event),
+) -> Answer {
+    let head = match check(image) {
+        Ok(head) => head,
+        Err(number) => return Answer::refused(number),
+    };
+    let (blocker_room, word_room) = (rooms.masks.len(), rooms.cases.len());
+    if rooms.levels.len() != blocker_room || rooms.symbols.len() != word_room {
+        return Answer::refused(30);
+    }
+    if blocker_room.max(word_room).max(hints.len()) > MOST_PLACES {
+        return Answer::refused(31);
+    }
+    let mut machine = Machine {
+        automaton: Automaton::new(image, &head),
+        blockers: Blockers::new(rooms.masks, rooms.levels),
+        cases: rooms.cases,
+        symbols: rooms.symbols,
+        hints,
+        level: 0,
+        open: false,
+        pending: 0,
+        steps: 0,
+        blocks: 0,
+        hints_accepted: 0,
+        word_length: 0,
+        observe,
+    };
+    let number = machine.work(allowance);
+    machine.finish(number)
+}
+
+/// Cases are pending at consecutive levels from N down, so the first place of word room is that of
+/// level N and the last one in use that of the lowest.
+struct Machine<'a, Observe> {
+    automaton: Automaton<'a>,
+    blockers: Blockers<'a>,
+    cases: &'a mut [u64],
+    /// The symbol that led to each pending case, 0 for the first.
+    symbols: &'a mut [u8],
+    hints: &'a [u64],
+    /// N.
+    level: u32,
+    open: bool,
+    /// How many cases are pending.
+    pending: usize,
+    steps: u64,
+    blocks: usize,
+    hints_accepted: u64,
+    word_length: usize,
+    observe: Observe,
+}
+
+impl<Observe: FnMut(Event)> Machine<'_, Observe> {
+    /// "Start: if I is a subset of F, answer 1 with the empty word and 0 steps. Otherwise steps
+    /// follow. Before each step the allowance is tested (2), then the room that the step needs
+    /// (3 or 4). A pending case is worked on first; with none, an open N is closed; else a level is
+    /// opened."
+    fn work(&mut self, allowance: u64) -> u64 {
+        if contains(self.automaton.final_set, self.automaton.initial) {
+            return 1;
+        }
+        loop {
+            if self.steps == allowance {
+                return 2;
+            }
+            let answer = if self.pending > 0 {
+                self.extend_or_block()
+            } else if self.open {
+                self.close()
+            } else {
+                self.open()
+            };
+            if let Some(number) = answer {
+                return number;
+            }
+        }
+    }
+
+    /// "N grows by 1 and is open. If F is not blocked at N, F becomes pending at N."
+    fn open(&mut self) -> Option<u64> {
+        if self.level as usize == self.cases.len() {
+            return Some(4);
+        }
+        self.steps += 1;
+        self.level += 1;
+        self.open = true;
+        let final_set = self.automaton.final_set;
+        let pending = !self.blocked(final_set, self.level);
+        if pending {
+            self.push(final_set, 0);
+        }
+        (self.observe)(Event::Opened { pending });
+        None
+    }
+
+    /// "For the pending case X of lowest level i, the symbols are tried from 0 upward, and the first
+    /// whose backward set P is neither a subset of X nor blocked at i-1 is taken."
+    fn extend_or_block(&mut self) -> Option<u64> {
+        let case = self.cases[self.pending - 1];
+        let level = self.level - (self.pending - 1) as u32;
+        for symbol in 0..self.automaton.symbols() {
+            let backward = self.automaton.backward_set(symbol, case);
+            if !contains(case, backward) && !self.blocked(backward, level - 1) {
+                return self.extend(symbol as u8, backward);
+            }
+        }
+        self.block(case, level)
+    }
+
+    /// "If P contains I: answer 1; the word is that symbol, then the symbols that led to the pending
+    /// cases from the lowest level up. Otherwise P becomes pending at i-1."
+    fn extend(&mut self, symbol: u8, backward: u64) -> Option<u64> {
+        self.steps += 1;
+        (self.observe)(Event::Extended { symbol });
+        if contains(backward, self.automaton.initial) {
+            self.symbols[0] = symbol;
+            self.symbols[1..self.pending].reverse();
+            self.word_length = self.pending;
+            return Some(1);
+        }
+        self.push(backward, symbol);
+        None
+    }
+
+    /// "If t blocks came before and hint t exists and passes, it is taken. Otherwise Y starts as X;
+    /// states 0 to n-1 not in X are tried in order, each kept if the set with it still passes.
+    /// Blockers of level <= i that are subsets of Y leave and the rest close up; Y enters at the end
+    /// with level i; X is no longer pending. Room is judged after the leaving."
+    fn block(&mut self, case: u64, level: u32) -> Option<u64> {
+        let hint = self.hints.get(self.blocks).copied();
+        let hint = hint.filter(|&hint| self.passes(hint, case, level));
+        let blocker = match hint {
+            Some(hint) => hint,
+            None => self.grow(case, level),
+        };
+        let was_full = self.blockers.is_full();
+        let left = self.blockers.leave(blocker, level);
+        // A table that is full now was full before and has lost nothing: it stands as it stood.
+        if self.blockers.is_full() {
+            return Some(3);
+        }
+        self.steps += 1;
+        self.blockers.enter(blocker, level);
+        self.blocks += 1;
+        self.hints_accepted += u64::from(hint.is_some());
+        self.pending -= 1;
+        (self.observe)(Event::Blocked {
+            pending: case,
+            blocker,
+            by_hint: hint.is_some(),
+            left,
+            was_full,
+        });
+        None
+    }
+
+    fn grow(&self, case: u64, level: u32) -> u64 {
+        let mut blocker = case;
+        for state in 0..self.automaton.states() {
+            let grown = blocker | 1 << state;
+            if grown != blocker && self.passes(grown, case, level) {
+                blocker = grown;
+            }
+        }
+        blocker
+    }
+
+    /// "A case Y passes if it contains X, does not contain I, has no bit at n or above, and its
+    /// backward set by each symbol is a subset of Y or blocked at i-1."
+    fn passes(&self, candidate: u64, case: u64, level: u32) -> bool {
+        contains(candidate, case)
+            && !contains(candidate, self.automaton.initial)
+            && contains(self.automaton.all_states(), candidate)
+            && (0..self.automaton.symbols()).all(|symbol| {
+                let backward = self.automaton.backward_set(symbol, candidate);
+                contains(candidate, backward) || self.blocked(backward, level - 1)
+            })
+    }
+
+    /// "For j from 1 to N, in table order, a blocker of level exactly j all of whose backward sets
+    /// are blocked at j rises to j+1 in place; other subsets of it of level <= j+1 leave and the rest
+    /// close up. N is then no longer open. If some level from 1 to N then holds no blocker, take the
+    /// lowest such j: answer 0; the frame is the blockers above j."
+    fn close(&mut self) -> Option<u64> {
+        self.steps += 1;
+        for level in 1..=self.level {
+            let mut next = 0;
+            while let Some((place, mask)) = self.blockers.at_level(level, next) {
+                next = place + 1;
+                if self.rises(mask, level) {
+                    let (left_before, left_behind) = self.blockers.rise(place);
+                    // What stood behind the risen blocker has closed up with it.
+                    next -= left_before;
+                    (self.observe)(Event::Rose {
+                        left_before,
+                        left_behind,
+                    });
+                }
+            }
+        }
+        self.open = false;
+        (self.observe)(Event::Closed);
+        let vacant = (1..=self.level).find(|&level| !self.blockers.hold_level(level))?;
+        self.blockers.keep_above(vacant);
+        Some(0)
+    }
+
+    fn rises(&self, mask: u64, level: u32) -> bool {
+        (0..self.automaton.symbols())
+            .all(|symbol| self.blocked(self.automaton.backward_set(symbol, mask), level))
+    }
+
+    /// "A case is blocked at level i >= 1 if it is a subset of a blocker of level i or more; at level
+    /// 0 if it does not contain I."
+    fn blocked(&self, case: u64, level: u32) -> bool {
+        if level == 0 {
+            !contains(case, self.automaton.initial)
+        } else {
+            self.blockers.cover(case, level)
+        }
+    }
+
+    fn push(&mut self, case: u64, symbol: u8) {
+        self.cases[self.pending] = case;
+        self.symbols[self.pending] = symbol;
+        self.pending += 1;
+    }
+
+    /// "Pending cases are all 0; the symbol table holds the word from its first place on 'hit' and 0
+    /// elsewhere; the blocker room holds the entries in table order, with 0 after them."
+    fn finish(self, number: u64) -> Answer {
+        self.cases.fill(0);
+        self.symbols[self.word_length..].fill(0);
+        Answer {
+            number,
+            steps: self.steps,
+            level: u64::from(self.level),
+            blockers: self.blockers.finish() as u64,
+            hints_accepted: self.hints_accepted,
+        }
+    }
+}

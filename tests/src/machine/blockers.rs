@@ -1,0 +1,118 @@
+//! Blocker room: two tables of one length, of which the first places are in use.
+
+use super::automaton::contains;
+use std::ops::Range;
+
+pub struct Blockers<'a> {
+    masks: &'a mut [u64],
+    levels: &'a mut [u32],
+    held: usize,
+}
+
+impl<'a> Blockers<'a> {
+    /// None are held, whatever the tables have in them.
+    pub fn new(masks: &'a mut [u64], levels: &'a mut [u32]) -> Self {
+        assert_eq!(masks.len(), levels.len());
+        Blockers {
+            masks,
+            levels,
+            held: 0,
+        }
+    }
+
+    pub fn is_full(&self) -> bool {
+        self.held == self.masks.len()
+    }
+
+    /// Whether the case is a subset of a blocker of this level or more.
+    pub fn cover(&self, case: u64, level: u32) -> bool {
+        let covers = |mask, its_level| (its_level >= level) & contains(mask, case);
+        self.first(0..self.held, covers).is_some()
+    }
+
+    pub fn hold_level(&self, level: u32) -> bool {
+        self.at_level(level, 0).is_some()
+    }
+
+    /// The place and the mask of the first blocker of exactly this level from a place on.
+    pub fn at_level(&self, level: u32, from: usize) -> Option<(usize, u64)> {
+        let place = self.first(from..self.held, |_, its_level| its_level == level)?;
+        Some((place, self.masks[place]))
+    }
+
+    pub fn enter(&mut self, mask: u64, level: u32) {
+        self.masks[self.held] = mask;
+        self.levels[self.held] = level;
+        self.held += 1;
+    }
+
+    /// Subsets of the mask leave if their level is not above the one given. Answers how many did.
+    pub fn leave(&mut self, mask: u64, highest: u32) -> usize {
+        self.leave_from(0..self.held, mask, highest)
+    }
+
+    /// The blocker at the place rises by one, and other subsets of it of no higher level leave.
+    /// Answers how many left from before it and from behind it.
+    pub fn rise(&mut self, place: usize) -> (usize, usize) {
+        self.levels[place] += 1;
+        let (mask, highest) = (self.masks[place], self.levels[place]);
+        let left_behind = self.leave_from(place + 1..self.held, mask, highest);
+        let left_before = self.leave_from(0..place, mask, highest);
+        (left_before, left_behind)
+    }
+
+    fn leave_from(&mut self, places: Range<usize>, mask: u64, highest: u32) -> usize {
+        let leaves = |its_mask, level| (level <= highest) & contains(mask, its_mask);
+        self.remove(places, leaves)
+    }
+
+    pub fn keep_above(&mut self, level: u32) {
+        self.remove(0..self.held, |_, its_level| its_level <= level);
+    }
+
+    /// Those among the places for which the test holds leave, and the rest close up. Answers how
+    /// many left.
+    fn remove(&mut self, places: Range<usize>, leaves: impl Fn(u64, u32) -> bool) -> usize {
+        let Some(first) = self.first(places.clone(), &leaves) else {
+            return 0;
+        };
+        let mut kept = first;
+        for place in first + 1..places.end {
+            let (mask, level) = (self.masks[place], self.levels[place]);
+            self.masks[kept] = mask;
+            self.levels[kept] = level;
+            kept += usize::from(!leaves(mask, level));
+        }
+        self.masks.copy_within(places.end..self.held, kept);
+        self.levels.copy_within(places.end..self.held, kept);
+        let left = places.end - kept;
+        self.held -= left;
+        left
+    }
+
+    /// The first of the places at which the test holds. It is made of four at a time and only then
+    /// asked whether it held, so that the compiler has vectors to work on.
+    fn first(&self, places: Range<usize>, test: impl Fn(u64, u32) -> bool) -> Option<usize> {
+        const FOUR: usize = 4;
+        let holds = |(&mask, &level): (&u64, &u32)| test(mask, level);
+        let (masks, mask_rest) = self.masks[places.clone()].as_chunks::<FOUR>();
+        let (levels, level_rest) = self.levels[places.clone()].as_chunks::<FOUR>();
+        let mut place = places.start;
+        for (masks, levels) in masks.iter().zip(levels) {
+            let entries = || masks.iter().zip(levels);
+            if entries().map(holds).fold(false, |any, held| any | held) {
+                return Some(place + entries().position(holds)?);
+            }
+            place += FOUR;
+        }
+        let rest = mask_rest.iter().zip(level_rest).position(holds)?;
+        Some(place + rest)
+    }
+
+    /// Clears what is not in use. Answers how many are held.
+    pub fn finish(self) -> usize {
+        self.masks[self.held..].fill(0);
+        self.levels[self.held..].fill(0);
+        self.held
+    }
+}

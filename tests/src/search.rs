@@ -1,0 +1,77 @@
+//! Emptiness by a search over all cases, breadth first from F backwards. It judges the verdicts of
+//! runs and the lengths of their words, and has only the model in common with the machine.
+
+use crate::acceptance::{accepts_backwards, backward_set};
+use crate::image::Model;
+use crate::tables::{Answer, Tables};
+
+/// The length of a shortest accepted word, if one is accepted.
+pub fn shortest_word(model: &Model) -> Option<usize> {
+    assert!(model.states <= 16, "{model}: too many cases");
+    let contains_initial = |case: u64| model.initial & !case == 0;
+    let mut seen = vec![0_u64; (1 << model.states) / 64 + 1];
+    let mut is_new = |case: u64| {
+        let (place, bit) = ((case / 64) as usize, 1 << (case % 64));
+        let new = seen[place] & bit == 0;
+        seen[place] |= bit;
+        new
+    };
+    is_new(model.final_set);
+    let mut reached = vec![model.final_set];
+    for length in 0.. {
+        if reached.iter().any(|&case| contains_initial(case)) {
+            return Some(length);
+        }
+        let mut next = Vec::new();
+        for &case in &reached {
+            for symbol in 0..model.symbols() as u8 {
+                let backward = backward_set(model, symbol, case);
+                if is_new(backward) {
+                    next.push(backward);
+                }
+            }
+        }
+        if next.is_empty() {
+            return None;
+        }
+        reached = next;
+    }
+    unreachable!("there are only so many cases")
+}
+
+/// "The frame is closed: F is a subset of one of its blockers, I of none, and each backward set of a
+/// blocker is a subset of a blocker."
+pub fn is_closed(model: &Model, frame: &[u64]) -> bool {
+    let covered = |case: u64| frame.iter().any(|blocker| case & !blocker == 0);
+    let symbols = 0..model.symbols() as u8;
+    covered(model.final_set)
+        && !covered(model.initial)
+        && frame.iter().all(|&blocker| {
+            let mut symbols = symbols.clone();
+            symbols.all(|symbol| covered(backward_set(model, symbol, blocker)))
+        })
+}
+
+/// Whether an answer with a verdict is right and proves itself: by a word that is accepted and as
+/// long as the level says, or by a frame that is closed.
+pub fn proves_itself(model: &Model, answer: &Answer, after: &Tables) -> bool {
+    let held = answer.blockers as usize;
+    match answer.number {
+        0 => is_closed(model, &after.masks[..held]),
+        1 => accepts_backwards(model, &after.symbols[..answer.level as usize]),
+        _ => panic!("{answer:?} is no verdict"),
+    }
+}
+
+/// The verdict, its proof and the word's length by the search.
+pub fn assert_right(model: &Model, answer: &Answer, after: &Tables) {
+    let verdict = (answer.number == 1).then_some(answer.level as usize);
+    assert!(answer.is_verdict(), "{model}\n{answer:?} is no verdict");
+    assert_eq!(verdict, shortest_word(model), "{model}\n{answer:?}");
+    assert!(
+        proves_itself(model, answer, after),
+        "{model}\n{answer:?}\nmasks {:?}\nsymbols {:?}",
+        after.masks,
+        after.symbols
+    );
+}

@@ -1,0 +1,207 @@
+//! Runs that are refused: the number, the other four 0, and no lent place changed.
+
+use afa_tests::afa::run::run_untouchable;
+use afa_tests::compare::run::Comparison;
+use afa_tests::damage::DAMAGES;
+use afa_tests::generate::{self, runs::run_model};
+use afa_tests::guarded::{Untouchable, EDGES};
+use afa_tests::image::{model_c, Model};
+use afa_tests::random::Random;
+use afa_tests::tables::{Answer, Lent, Tables};
+
+/// Lengths of the four tables and of the hints, and the number that they give on a valid image.
+const LENGTHS: [([usize; 5], Option<u64>); 27] = [
+    ([4, 4, 4, 4, 2], None),
+    ([0, 0, 0, 0, 0], None),
+    ([65_536, 65_536, 65_536, 65_536, 65_536], None),
+    ([4, 5, 4, 4, 0], Some(30)),
+    ([5, 4, 4, 4, 0], Some(30)),
+    ([4, 4, 4, 5, 0], Some(30)),
+    ([4, 4, 5, 4, 0], Some(30)),
+    ([0, 1, 0, 0, 0], Some(30)),
+    ([1, 0, 0, 0, 0], Some(30)),
+    ([0, 0, 0, 1, 0], Some(30)),
+    ([0, 0, 1, 0, 0], Some(30)),
+    ([4, 5, 5, 4, 0], Some(30)),
+    ([4, 9, 9, 4, 0], Some(30)),
+    ([4, 9, 4, 9, 0], Some(30)),
+    ([65_537, 65_537, 4, 4, 0], Some(31)),
+    ([4, 4, 65_537, 65_537, 0], Some(31)),
+    ([4, 4, 4, 4, 65_537], Some(31)),
+    ([65_537, 65_537, 65_537, 65_537, 65_537], Some(31)),
+    ([131_072, 131_072, 4, 4, 0], Some(31)),
+    ([4, 4, 131_072, 131_072, 131_072], Some(31)),
+    ([65_537, 65_537, 4, 5, 0], Some(30)),
+    ([4, 5, 65_537, 65_537, 0], Some(30)),
+    ([4, 5, 4, 4, 65_537], Some(30)),
+    ([65_536, 65_537, 4, 4, 0], Some(30)),
+    ([65_537, 65_536, 4, 4, 0], Some(30)),
+    ([65_540, 4, 4, 4, 0], Some(30)),
+    ([4, 4, 4, 65_540, 0], Some(30)),
+];
+
+fn lent(random: &mut Random, lengths: [usize; 5]) -> Lent {
+    let [masks, levels, cases, symbols, hints] = lengths;
+    Lent {
+        before: Tables::filled_unevenly(random, [masks, levels, cases, symbols]),
+        hints: (0..hints).map(|_| random.number()).collect(),
+        allowance: random.pick(&[0, 1, 100_000, u64::MAX]),
+    }
+}
+
+fn expect_refused(comparison: &mut Comparison, image: &[u8], lent: &Lent, number: u64) {
+    let (answer, after) = comparison.run(image, lent, &"expected to be refused");
+    assert_eq!(answer, Answer::of_numbers([number, 0, 0, 0, 0]));
+    assert!(after == lent.before);
+}
+
+#[test]
+fn lengths() {
+    let mut random = Random::seeded(61);
+    let mut comparison = Comparison::default();
+    let image = model_c().image();
+    for (lengths, number) in LENGTHS {
+        let lent = lent(&mut random, lengths);
+        match number {
+            Some(number) => expect_refused(&mut comparison, &image, &lent, number),
+            None => {
+                let (answer, _) = comparison.run(&image, &lent, &"expected to run");
+                assert!(answer.number < 20);
+            }
+        }
+    }
+}
+
+/// A start that is final, an allowance of 0 and rooms of nothing do not come before the checks.
+#[test]
+fn checks_come_first() {
+    let mut random = Random::seeded(62);
+    let mut comparison = Comparison::default();
+    let accepting = Model::plain(1, 1, 0);
+    for (lengths, number) in [
+        ([0, 1, 0, 0, 0], 30),
+        ([0, 0, 1, 0, 0], 30),
+        ([65_537, 65_537, 0, 0, 0], 31),
+        ([0, 0, 65_537, 65_537, 0], 31),
+        ([0, 0, 0, 0, 65_537], 31),
+    ] {
+        for allowance in [0, 1] {
+            let mut lent = lent(&mut random, lengths);
+            lent.allowance = allowance;
+            expect_refused(&mut comparison, &accepting.image(), &lent, number);
+        }
+    }
+}
+
+/// Each check of an image broken or not, in all ways, with rooms that are refused and rooms that are
+/// not.
+#[test]
+fn order_of_checks() {
+    let mut random = Random::seeded(63);
+    let mut comparison = Comparison::default();
+    for broken in 0..1 << 8 {
+        let is_broken = |number: u64| broken >> (number - 20) & 1 == 1;
+        let mut image = model_c().image();
+        if is_broken(27) {
+            image[54] = 255;
+        }
+        if is_broken(26) {
+            image[28] += 9;
+        }
+        if is_broken(25) {
+            image[random.pick(&[4, 12])] |= 8;
+        }
+        if is_broken(24) {
+            image.push(0);
+        }
+        if is_broken(23) {
+            image[2..4].copy_from_slice(&4097_u16.to_le_bytes());
+        }
+        if is_broken(22) {
+            image[1] = random.pick(&[0, 65]);
+        }
+        if is_broken(21) {
+            image[0] = random.pick(&[0, 65]);
+        }
+        if is_broken(20) {
+            image.truncate(19);
+        }
+        let first = (20..=27).find(|&number| is_broken(number));
+        for (lengths, number) in LENGTHS {
+            // Long tables take long, and with a broken image a few of them do.
+            let long = lengths.iter().any(|&length| length > 1_000);
+            if long && first.is_some() && !random.chance(5) {
+                continue;
+            }
+            if let Some(number) = first.or(number) {
+                let lent = lent(&mut random, lengths);
+                expect_refused(&mut comparison, &image, &lent, number);
+            }
+        }
+    }
+    println!("order of checks: {:?}", &comparison.seen.by_number[20..]);
+    let by_number = &comparison.seen.by_number;
+    assert!(by_number[20..28].iter().all(|&count| count > 10));
+    assert!(by_number[30] > 10 && by_number[31] > 5);
+}
+
+#[test]
+fn damaged_images() {
+    let mut random = Random::seeded(64);
+    let mut comparison = Comparison::default();
+    let mut images: Vec<Vec<u8>> = (0..200)
+        .map(|_| generate::model(&mut random).image())
+        .collect();
+    images.extend((0..200).map(|_| run_model(&mut random).image()));
+    for _ in 0..30_000 {
+        let mut image = images[random.below(images.len())].clone();
+        let mut origin = String::from("damage");
+        for _ in 0..random.pick(&[1, 1, 2, 3]) {
+            let (name, damage) = random.pick(&DAMAGES);
+            damage(&mut image, &mut random);
+            origin = origin + ": " + name;
+        }
+        let [blocker_room, word_room, hints] = [6, 6, 12].map(|bound| random.below(bound));
+        let lengths = [blocker_room, blocker_room, word_room, word_room, hints];
+        let mut lent = lent(&mut random, lengths);
+        lent.allowance = lent.allowance.min(20);
+        match random.below(8) {
+            0 => lent.before.masks.push(7),
+            1 => lent.before.symbols.push(7),
+            _ => {}
+        }
+        let (answer, after) = comparison.run(&image, &lent, &origin);
+        if answer.number >= 20 {
+            assert_eq!(answer, Answer::refused(answer.number));
+            assert!(after == lent.before, "{origin}");
+        }
+    }
+    let by_number = comparison.seen.by_number;
+    println!("30000 damaged images, by number: {by_number:?}");
+    assert!(by_number[20..28].iter().all(|&count| count > 300));
+    assert!(by_number[30] > 300);
+}
+
+/// Lengths that would fit if they were cut down to 32 bits.
+#[test]
+fn lengths_that_fit_when_cut() {
+    const LONG: usize = (1 << 32) + 4;
+    let image = model_c().image();
+    let memory = Untouchable::with_room(LONG * size_of::<u64>());
+    for (lengths, number) in [
+        ([LONG, LONG, 4, 4, 4], 31),
+        ([4, 4, LONG, LONG, 4], 31),
+        ([4, 4, 4, 4, LONG], 31),
+        ([LONG; 5], 31),
+        ([LONG, 4, 4, 4, 4], 30),
+        ([4, LONG, 4, 4, 4], 30),
+        ([4, 4, LONG, 4, 4], 30),
+        ([4, 4, 4, LONG, 4], 30),
+    ] {
+        for edge in EDGES {
+            let mut counts = [7; 4];
+            let answered = run_untouchable(&image, lengths, &memory, edge, &mut counts);
+            assert_eq!((answered, counts), (number, [0; 4]), "{lengths:?}");
+        }
+    }
+}

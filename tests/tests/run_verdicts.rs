@@ -1,0 +1,95 @@
+//! The third demand on models of up to 8 states: with 2^n places a room and 4^(n+1) steps every run
+//! has a verdict, with any hints, and it is the one that a search over all cases gives.
+
+use afa_tests::compare::run::Comparison;
+use afa_tests::generate::hints::{hints, passing_hints};
+use afa_tests::generate::runs::{run_model_of, Earlier};
+use afa_tests::image::{rings, Model};
+use afa_tests::random::Random;
+use afa_tests::search::assert_right;
+use afa_tests::tables::{Answer, Lent, Tables};
+
+const MODELS: usize = 12_000;
+
+fn assert_verdict(
+    comparison: &mut Comparison,
+    random: &mut Random,
+    model: &Model,
+    hints: Vec<u64>,
+) -> Answer {
+    let places = 1 << model.states;
+    let lent = Lent {
+        before: Tables::filled(random, places, places),
+        hints,
+        allowance: 4 << (2 * model.states),
+    };
+    let (answer, after) = comparison.run(&model.image(), &lent, model);
+    assert_right(model, &answer, &after);
+    assert!(answer.steps <= lent.allowance, "{model}\n{answer:?}");
+    answer
+}
+
+#[test]
+fn up_to_8_states() {
+    let mut random = Random::seeded(41);
+    let mut comparison = Comparison::default();
+    let mut long_words = 0;
+    let mut models = 0;
+    while models < MODELS {
+        let (states, symbols) = (random.within(1..=8), random.within(1..=3));
+        let model = run_model_of(&mut random, states, symbols);
+        let earlier = Earlier::new(&model.image(), &[], u64::MAX);
+        if earlier.answer.steps < 4 && random.chance(80) {
+            continue;
+        }
+        models += 1;
+        let plain = assert_verdict(&mut comparison, &mut random, &model, Vec::new());
+        let hints = hints(&mut random, &model, &earlier.blocks);
+        assert_verdict(&mut comparison, &mut random, &model, hints);
+        if models % 8 == 0 {
+            let hints = passing_hints(&mut random, &model.image(), 60);
+            let count = hints.len() as u64;
+            let hinted = assert_verdict(&mut comparison, &mut random, &model, hints);
+            assert_eq!(hinted.hints_accepted, count, "{model}");
+        }
+        long_words += usize::from(plain.number == 1 && plain.level >= 4);
+    }
+    let seen = comparison.seen;
+    println!("{MODELS} models, {long_words} with a shortest word of 4 or more: {seen}");
+    assert!(seen.by_number[0] > 5_000 && seen.by_number[1] > 5_000);
+    assert!(long_words > 500 && seen.by_hint > 2_000);
+    assert!(seen.left_before > 50 && seen.left_behind > 50);
+}
+
+/// Every model that has 3 states, one symbol and for each state one row, whose case has one state or
+/// none, with every I and with every F.
+#[test]
+fn three_states_with_one_row_each() {
+    let mut random = Random::seeded(42);
+    let mut comparison = Comparison::default();
+    for number in 0..4_usize.pow(3) * 64 {
+        let case = |state: u32| [0, 1, 2, 4][number / 64 / 4_usize.pow(state) % 4];
+        let rows = [0, 1, 2].map(|state| (state as u8, case(state)));
+        let (initial, final_set) = (number as u64 % 8, number as u64 / 8 % 8);
+        let model = Model::new(3, initial, final_set, &[&rows]);
+        assert_verdict(&mut comparison, &mut random, &model, Vec::new());
+    }
+    println!("three states with one row each: {}", comparison.seen);
+}
+
+/// Rings that are not coprime too.
+#[test]
+fn every_two_rings() {
+    let mut random = Random::seeded(43);
+    let mut comparison = Comparison::default();
+    for one in 1..=7 {
+        for other in 1..=8 - one {
+            let model = rings(&[one, other]);
+            let answer = assert_verdict(&mut comparison, &mut random, &model, Vec::new());
+            // Where both are at their last state, one before a common multiple.
+            assert_eq!(answer.number, 1, "{model}");
+            let length = answer.level as usize + 1;
+            assert!(length.is_multiple_of(one) && length.is_multiple_of(other));
+        }
+    }
+}
