@@ -148,11 +148,9 @@ taken-back-same A B same (s ∷ word) symbols X =
     ∙ ap (backward (B .rows s)) (taken-back-same A B same word (λ t m. symbols t (there m)) X)
 
 -- one row, by the test of its case
-pub row-inside : (X set : ℕ) (row : Row) (case result : ℕ) (b : Bool) → case ≡ row .case → b ≡ subset case X → b ≡ true → result ≡ union set (single (row .state)) → result ≡ withRow X set row
-row-inside X set row case result b c e t r = r ∙ sym (with-row-yes X set row (ap (λ (x : ℕ). subset x X) (sym c) ∙ sym e ∙ t))
-
-pub row-outside : (X set : ℕ) (row : Row) (case : ℕ) (b : Bool) → case ≡ row .case → b ≡ subset case X → b ≡ false → set ≡ withRow X set row
-row-outside X set row case b c e t = sym (with-row-no X set row (ap (λ (x : ℕ). subset x X) (sym c) ∙ sym e ∙ t))
+pub row-tested : (X set : ℕ) (row : Row) (case result : ℕ) (b : Bool) → case ≡ row .case → b ≡ subset case X → result ≡ choose b (union set (single (row .state))) set → result ≡ withRow X set row
+unfolding withRow
+row-tested X set row case result b c e r = r ∙ ap (λ (x : Bool). choose x (union set (single (row .state))) set) (e ∙ ap (λ (x : ℕ). subset x X) c)
 
 -- the walk over the rows from start to end, before the row at `at`: the states gathered, and what the rows that are left add to them
 pub record RowsAhead (image : List ℕ) (start end X set at : ℕ) : Type 0 where

@@ -16,10 +16,11 @@ fn with_row(image: &[u8], at: usize, x: u64, set: u64) -> u64
     requires { ⌜ (at + 9 ≤ length (now image)) × (byteAt (now image) at < 64) ⌝ }
     ensures { λ r. ⌜ r ≡ withRow x set (rowAt (now (image .entry)) at) ⌝ }
 {
-    if masks::subset(read8(image, at + 1), x) {
-        return masks::insert(State(image[at]), set);
-    }
-    set
+    masks::insert_if(
+        masks::subset(read8(image, at + 1), x),
+        State(image[at]),
+        set,
+    )
 }
 
 // The states of the rows from start to end whose case is a subset of x.

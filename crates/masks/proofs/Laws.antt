@@ -3,13 +3,15 @@ use Prim.Native.Nat.{ℕ, zero, suc, _+_, _-_, _*_, _/_, _%_, _^_, _≤_, _<_, m
 use mathlib.Core.Path.{_≡_, refl, sym, ap, subst, _∙_}
 use mathlib.Core.Bool.{Bool, true, false}
 use mathlib.Core.Logic.{_⊎_, inl, inr, _↔_}
-use native.Mathlib.Nat.{one-mul, mod-eq-of-lt, lt-of-lt-of-le}
+use native.Mathlib.Nat.{zero-mul, zero-mod, one-mul, mod-eq-of-lt, lt-of-lt-of-le}
 use native.Mathlib.Decide.{ℕ-discrete, decLe}
 use native.Mathlib.Omega.{arith}
 use borrow.Author.Tests.{le-leb, lt-ltb}
-use lib.Bits.{bitAnd, bitOr, and-comm, and-mask}
+use lib.Bits.{bitAnd, bitOr, and-comm, and-mask, or-zero-r}
 use lib.Dec.{T, eqb, leb, ltb, eqb→eq, eqb-refl, ltb→lt, lt→ltb, leb·suc-suc}
 use lib.Pow.{pow-lt, pow-mono, suc-ones, ones-split, ones-lt, high}
+use mir.Val.{boolByte}
+use Rattle.lists.specs.Tests.{choose}
 use Rattle.masks.specs.Sets.{digit, Member, member, subset, union, single, full, within}
 use Rattle.masks.proofs.Digits.{digit-and, digit-or, digit-zero, same-digits, digit-power-self, digit-power-other, digit-above, below-power}
 
@@ -139,6 +141,11 @@ full-members n q = (
 pub shifted-one : (width q : ℕ) → q < width → (1 * 2 ^ q) % 2 ^ width ≡ single q
 unfolding single
 shifted-one width q h = ap (λ (x : ℕ). x % 2 ^ width) (one-mul (2 ^ q)) ∙ mod-eq-of-lt (pow-lt h)
+
+pub shifted-test : (width : ℕ) (test : Bool) (q set : ℕ) → q < width → bitOr set ((boolByte test * 2 ^ q) % 2 ^ width) ≡ choose test (union set (single q)) set
+unfolding union choose
+shifted-test width true q set h = ap (bitOr set) (shifted-one width q h)
+shifted-test width false q set h = ap (λ (x : ℕ). bitOr set (x % 2 ^ width)) (zero-mul (2 ^ q)) ∙ ap (bitOr set) (zero-mod (2 ^ width)) ∙ or-zero-r set
 
 pub shifted-ones : (width n : ℕ) → n ≤ width → (2 ^ width - 1) / 2 ^ (width - n) ≡ full n
 unfolding full

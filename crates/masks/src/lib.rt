@@ -1,6 +1,7 @@
 // Sets of states as masks of 64 bits: bit q stands for state q.
 ghost use mathlib.Core.Path.{_≡_};
 ghost use Prim.Native.Nat.{_<_, min};
+ghost use Rattle.lists.specs.Tests.{choose};
 ghost use Rattle.masks.specs.Sets.{subset as isSubset, member as isMember, within as isWithin};
 ghost use Rattle.masks.specs.Sets.{union, single, full as fullSet};
 
@@ -28,6 +29,14 @@ pub fn insert(q: State, set: u64) -> u64
     ensures { λ r. ⌜ r ≡ union set (single (q .0)) ⌝ }
 {
     set | 1u64 << q.0
+}
+
+// The set with the state q put in if the test holds. There is no branch to predict: this is the inner loop of backward sets.
+pub fn insert_if(test: bool, q: State, set: u64) -> u64
+    requires { ⌜ q .0 < 64 ⌝ }
+    ensures { λ r. ⌜ r ≡ choose test (union set (single (q .0))) set ⌝ }
+{
+    set | (test as u64) << q.0
 }
 
 // The set of the first n states; more than 64 do not fit a mask, so n above 64 gives all 64.

@@ -1,40 +1,36 @@
-use Rattle.automata.proofs.BackwardSets.{row-inside, row-outside}
+use Rattle.automata.proofs.BackwardSets.{row-tested}
 use borrow.Author.Needs.{needs}
 use Rattle.automata.proofs.backward.with_row.Statement.{statement}
 use Rattle.automata.proofs.backward.with_row.Tie as tie
 use Rattle.automata.proofs.backward.with_row.Reads as reads
 use Rattle.automata.proofs.backward.with_row.Lts as lts
 use Rattle.automata.proofs.bytes.read8.Reads as read8-reads
-use Rattle.masks.proofs.insert.Reads as insert-reads
+use Rattle.masks.proofs.insert_if.Reads as insert-if-reads
 use Rattle.masks.proofs.subset.Reads as subset-reads
 
--- src/backward.rt:20:35
+-- src/backward.rt:20:36
 add-read8 : tie.Need-add-read8
 add-read8 c = search needs
 
--- src/backward.rt:20:22
+-- src/backward.rt:20:23
 read8-requires : tie.Need-read8-requires
 read8-requires c κs = search needs
 
--- src/backward.rt:20:8
+-- src/backward.rt:20:9
 subset-requires : tie.Need-subset-requires
 subset-requires c κs = search needs
 
--- src/backward.rt:21:36
+-- src/backward.rt:21:15
 shared-slice-read-t9 : tie.Need-shared-slice-read-t9
 shared-slice-read-t9 c = search needs
 
--- src/backward.rt:21:9
-insert-requires : tie.Need-insert-requires
-insert-requires c κs = search needs
+-- src/backward.rt:19:5
+insert-if-requires : tie.Need-insert-if-requires
+insert-if-requires c κs = search needs
 
--- src/backward.rt:21:9
+-- src/backward.rt:15:1
 returns : tie.Need-returns
-returns c = search (row-inside, needs)
-
--- src/backward.rt:16:1
-returns-2 : tie.Need-returns-2
-returns-2 c = search (row-outside, needs)
+returns c = search (row-tested, needs)
 
 pub with-row-spec : {M : Type 1} → statement M
 with-row-spec =
@@ -44,6 +40,5 @@ with-row-spec =
     read8-requires
     subset-requires
     shared-slice-read-t9
-    insert-requires
-    returns
-    returns-2)
+    insert-if-requires
+    returns)
