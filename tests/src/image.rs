@@ -138,6 +138,34 @@ pub fn model_c() -> Model {
     Model::new(3, 1, 0, &[&[(0, 6)], &[(1, 0), (2, 0)]])
 }
 
+/// Model C's image with the checks from 21 to 27 that are named broken: n and k take the values
+/// given, and of I and F the one at `mask_at` a bit too many. None is mended by breaking another.
+pub fn broken_model_c(is_broken: impl Fn(u64) -> bool, mask_at: usize, n: u8, k: u8) -> Vec<u8> {
+    let mut image = model_c().image();
+    if is_broken(27) {
+        image[54] = 255;
+    }
+    if is_broken(26) {
+        image[28] += 9;
+    }
+    if is_broken(25) {
+        image[mask_at] |= 8;
+    }
+    if is_broken(24) {
+        image.push(0);
+    }
+    if is_broken(23) {
+        image[2..4].copy_from_slice(&4097_u16.to_le_bytes());
+    }
+    if is_broken(22) {
+        image[1] = k;
+    }
+    if is_broken(21) {
+        image[0] = n;
+    }
+    image
+}
+
 pub fn model_d() -> Model {
     Model::new(1, 0, 0, &[&[]])
 }

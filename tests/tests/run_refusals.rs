@@ -5,7 +5,7 @@ use afa_tests::compare::run::Comparison;
 use afa_tests::damage::DAMAGES;
 use afa_tests::generate::{self, runs::run_model};
 use afa_tests::guarded::{Untouchable, EDGES};
-use afa_tests::image::{model_c, Model};
+use afa_tests::image::{broken_model_c, model_c, Model};
 use afa_tests::random::Random;
 use afa_tests::tables::{Answer, Lent, Tables};
 
@@ -101,28 +101,9 @@ fn order_of_checks() {
     let mut comparison = Comparison::default();
     for broken in 0..1 << 8 {
         let is_broken = |number: u64| broken >> (number - 20) & 1 == 1;
-        let mut image = model_c().image();
-        if is_broken(27) {
-            image[54] = 255;
-        }
-        if is_broken(26) {
-            image[28] += 9;
-        }
-        if is_broken(25) {
-            image[random.pick(&[4, 12])] |= 8;
-        }
-        if is_broken(24) {
-            image.push(0);
-        }
-        if is_broken(23) {
-            image[2..4].copy_from_slice(&4097_u16.to_le_bytes());
-        }
-        if is_broken(22) {
-            image[1] = random.pick(&[0, 65]);
-        }
-        if is_broken(21) {
-            image[0] = random.pick(&[0, 65]);
-        }
+        let mask_at = random.pick(&[4, 12]);
+        let (n, k) = (random.pick(&[0, 65]), random.pick(&[0, 65]));
+        let mut image = broken_model_c(is_broken, mask_at, n, k);
         if is_broken(20) {
             image.truncate(19);
         }

@@ -22,7 +22,8 @@ use Rattle.machine.specs.Lent.{blockersFrom, column, maskOf}
 use Rattle.blockers.specs.declared.Entered.{Entered}
 use Rattle.blockers.specs.declared.Entered.the-variants.{Held, Full}
 use Rattle.blockers.specs.Room.{Holds, blockerAt, tableOf, Placed, ClosedUp, Cleared, entering, enteredAnswer, enteredTable, Enters, risenAmong, risenTable, RisesAt, Frames}
-use Rattle.blockers.proofs.Over.{column-length, over-length}
+use Rattle.machine.proofs.LentTables.{column-length}
+use Rattle.blockers.proofs.Over.{over-length}
 use Rattle.blockers.proofs.Placing.{blockers-length, same-masks, same-levels, placed-first, placed-rest, stay-whole, Fronted, close-count, close-fronted, fronted-store, fronted-further, fronted-more, fronted-clear, fronted-full}
 
 -- blockers that close up from the first place on

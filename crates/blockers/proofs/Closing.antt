@@ -13,7 +13,8 @@ use Rattle.masks.specs.Sets.{subset}
 use Rattle.machine.specs.Machine.{Blocker, leaves, staying}
 use Rattle.machine.specs.Lent.{blockersFrom, column, maskOf, levelOf}
 use Rattle.blockers.specs.Room.{Holds, blockerAt, over, ClosedUp, Cleared}
-use Rattle.blockers.proofs.Over.{column-length, column-append, over-behind, over-store-last, over-nothing}
+use Rattle.machine.proofs.LentTables.{column-length}
+use Rattle.blockers.proofs.Over.{column-append, over-behind, over-store-last, over-nothing}
 use Rattle.blockers.proofs.Walks.{next-blocker, no-blocker}
 
 -- whether one blocker leaves, by the two tests

@@ -9,13 +9,8 @@ use lib.Seq.{drop-cons, take-append-seam, drop-append-add, drop-drop, getD-appen
 use Rattle.machine.specs.Lent.{column}
 use Rattle.blockers.specs.Room.{over}
 
--- a column has an entry for each entry, and a list's column is made of those of its parts
+-- a list's column is made of those of its parts
 module _ {A : Type 0} (field : A → ℕ) where
-  pub column-length : (table : List A) → length (column field table) ≡ length table
-  unfolding column
-  column-length [] = refl
-  column-length (entry ∷ table) = ap suc (column-length table)
-
   pub column-append : (table more : List A) → column field (table ++ more) ≡ column field table ++ column field more
   unfolding column
   column-append [] more = refl

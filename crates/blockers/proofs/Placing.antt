@@ -14,7 +14,8 @@ use Rattle.lists.proofs.Lists.{keep-length}
 use Rattle.machine.specs.Machine.{Blocker, leaves, staying}
 use Rattle.machine.specs.Lent.{blockersFrom, column, maskOf, levelOf, placed}
 use Rattle.blockers.specs.Room.{Holds, blockerAt, tableOf, Placed, over, ClosedUp, Cleared}
-use Rattle.blockers.proofs.Over.{column-length, column-append, over-length, over-behind, over-store, over-over, over-nothing}
+use Rattle.machine.proofs.LentTables.{column-length, placed-length}
+use Rattle.blockers.proofs.Over.{column-append, over-length, over-behind, over-store, over-over, over-nothing}
 
 -- the blockers in use are as many as are held
 pub blockers-length : (masks levels : List ℕ) (count at : ℕ) → length (blockersFrom masks levels count at) ≡ count
@@ -84,13 +85,6 @@ placed-over old new before =
     let e : max old (length new) ≡ length (new ++ replicate (old - length new) 0) =
     omega (arith, length-append new (replicate (old - length new) 0), length-replicate {A = ℕ} (old - length new) 0) in
     ap (λ (k : ℕ). (new ++ replicate (old - length new) 0) ++ drop k before) e
-
--- A table is as long as before.
-pub placed-length : (old : ℕ) (new before : List ℕ) → old ≤ length before → length new ≤ length before → length (placed old new before) ≡ length before
-placed-length old new before o n =
-    ap length (placed-over old new before)
-    ∙ over-length (new ++ replicate (old - length new) 0) before
-    (omega (arith, length-append new (replicate (old - length new) 0), length-replicate {A = ℕ} (old - length new) 0))
 
 -- what follows the new entries: 0 in each place that became free, and what stood there before
 unfoldable behind : ℕ → List ℕ → List ℕ → List ℕ

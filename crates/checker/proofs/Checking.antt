@@ -19,6 +19,7 @@ use Rattle.automata.proofs.WordTests.{answer-valid, answer-head}
 use Rattle.machine.specs.Machine.{Configuration, Rooms, byStates, machine, Outcome, nonempty, empty, stepsLack, blockersLack, wordLacks}
 use Rattle.machine.specs.Lent.{column, maskOf, levelOf, placed}
 use Rattle.machine.specs.Runs.{Lent, Result, systemOf, roomsOf, refused, ended, resultOf, oddRooms, oversize, checkRooms, checkRun, outcomeOf, runWith, runOf}
+use Rattle.machine.proofs.RunsKept.{check-fails}
 use Rattle.checker.specs.declared.record.Run.{Run}
 use Rattle.checker.specs.declared.run.Counts.{Counts}
 use Rattle.checker.specs.Whole.{Checked, Cleared, Runnable, lentOf, countsIn, resultWith, machineResult}
@@ -127,11 +128,6 @@ module _ {image : List ℕ} {head : Head} {masks levels cases symbols masks′ l
       (zeros-length masks masks′ (cleared .new-masks)) (zeros-length cases cases′ (cleared .new-cases))
 
 -- what the rooms' checks leave where none applies
-check-fails : (b : Bool) (number later : ℕ) → check b (suc number) later ≡ 0 → (T b → ⊥) × (later ≡ 0)
-unfolding check
-check-fails true number later e = absurd (omega arith)
-check-fails false number later e = (λ t. t, e)
-
 rooms-checked : (masks levels cases symbols hints : List ℕ) → checkRooms (lentOf masks levels cases symbols) hints 0 ≡ 0 → Checked masks levels cases symbols
 unfolding checkRooms oddRooms oversize
 rooms-checked masks levels cases symbols hints e =

@@ -319,7 +319,7 @@ fn close_level(
 
 // One step of a run that works: the allowance is tested, then the room that the step needs. A pending case is worked on first; with none, an open level
 // is closed; else a level is opened.
-pub fn step(
+pub(crate) fn step(
     image: &[u8],
     head: Head,
     masks: &mut [u64],

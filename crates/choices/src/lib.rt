@@ -102,7 +102,7 @@ fn settled(
 }
 
 // Whether y passes: it may take the place of x as what blocks x one level above `below`.
-pub fn passes(
+fn passes(
     image: &[u8],
     head: Head,
     masks: &[u64],
@@ -161,7 +161,7 @@ fn with_state(
 }
 
 // The set that x grows to, as what blocks it one level above `below`.
-pub fn grow(
+fn grow(
     image: &[u8],
     head: Head,
     masks: &[u64],

@@ -8,29 +8,9 @@ use lib.Seq.{drop-at}
 use Rattle.machine.specs.Machine.{Blocker}
 use Rattle.machine.specs.Lent.{column, maskOf, levelOf, placed}
 use Rattle.blockers.specs.Room.{Holds, tableOf, Placed}
-use Rattle.blockers.proofs.Over.{column-length}
+use Rattle.machine.proofs.LentTables.{column-length, placed-placed}
 use Rattle.blockers.proofs.Placing.{blockers-length, same-masks, same-levels, placed-masks-length, placed-levels-length, placed-table}
 use Rattle.closing.specs.Close.{Becomes}
-
--- entries in place of entries that were placed themselves, no more of them each time
-placed-placed : (old middle : ℕ) (first second before : List ℕ) → middle ≡ length first → length second ≤ middle → middle ≤ old
-    → placed middle second (placed old first before) ≡ placed old second before
-unfolding placed
-placed-placed old middle first second before e s l =
-    let free : List ℕ = replicate (old - length first) 0 in
-    let rest : List ℕ = drop (max old (length first)) before in
-    let top : max middle (length second) ≡ length first = omega arith in
-    let behind : drop (max middle (length second)) (first ++ free ++ rest) ≡ free ++ rest =
-    ap (λ (l : List ℕ). drop (max middle (length second)) l) (append-assoc first free rest) ∙ drop-at first (free ++ rest) (max middle (length second)) (sym top) in
-    let count : (middle - length second) + (old - length first) ≡ old - length second = omega arith in
-    let end : max old (length first) ≡ max old (length second) = omega arith in
-    ap (λ (l : List ℕ). second ++ replicate (middle - length second) 0 ++ l) behind
-    ∙ sym (append-assoc (second ++ replicate (middle - length second) 0) free rest)
-    ∙ ap (λ (l : List ℕ). l ++ rest)
-    (append-assoc second (replicate (middle - length second) 0) free
-    ∙ ap (λ (l : List ℕ). second ++ l) (replicate-append-replicate (middle - length second) (old - length first) 0)
-    ∙ ap (λ (k : ℕ). second ++ replicate k 0) count)
-    ∙ ap (λ (k : ℕ). second ++ replicate (old - length second) 0 ++ drop k before) end
 
 -- The blockers in use stand in their own place.
 pub becomes-own : {held : ℕ} {masks levels : List ℕ} → Holds held masks levels
@@ -79,12 +59,11 @@ module _ {held : ℕ} {table : List Blocker} {masks levels : List ℕ} {held′ 
       joined : (field : Blocker → ℕ) (before between after : List ℕ) → between ≡ placed held (column field table) before
           → after ≡ placed held′ (column field table′) between → after ≡ placed held (column field table′) before
       joined field before between after e f =
+          let most : max held held′ ≡ held = omega (arith, becomes .few) in
           f
           ∙ ap (λ (l : List ℕ). placed held′ (column field table′) l) e
-          ∙ placed-placed held held′ (column field table) (column field table′) before
-          (omega (arith, becomes .count, column-length field table))
-          (omega (arith, further .count, further .few, column-length field table′))
-          (becomes .few)
+          ∙ placed-placed held held′ (column field table) (column field table′) before (omega (arith, becomes .count, column-length field table))
+          ∙ ap (λ (n : ℕ). placed n (column field table′) before) most
 
   pub becomes-same : {table′ : List Blocker} → table ≡ table′ → Becomes held table′ masks levels held′ masks′ levels′
   becomes-same e = subst (λ (t : List Blocker). Becomes held t masks levels held′ masks′ levels′) e becomes

@@ -40,7 +40,7 @@ pub record Checked (image : List ℕ) (lent : Lent) (hints : List ℕ) : Type 0 
   pub blocker-room : length (lent .masks) ≡ length (lent .levels)
   pub word-room : length (lent .cases) ≡ length (lent .symbols)
 
-check-fails : (b : Bool) (number later : ℕ) → check b (suc number) later ≡ 0 → (T b → ⊥) × (later ≡ 0)
+pub check-fails : (b : Bool) (number later : ℕ) → check b (suc number) later ≡ 0 → (T b → ⊥) × (later ≡ 0)
 unfolding check
 check-fails true number later e = absurd (omega arith)
 check-fails false number later e = (λ t. t, e)
