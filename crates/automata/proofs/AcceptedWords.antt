@@ -1,7 +1,7 @@
 -- Acceptance by runs and by backward sets are one: a case steps into X exactly if it is inside the backward set of X, and so, symbol by symbol, a run
 -- from a case to a final one exists exactly if the case is inside F taken back. Assumes nothing.
 use Prim.Native.Nat.{ℕ, zero, suc, _<_}
-use mathlib.Core.Path.{_≡_, refl, sym, ap, subst}
+use mathlib.Core.Path.{_≡_, refl, sym, subst}
 use mathlib.Core.Bool.{Bool, true, false}
 use mathlib.Core.List.{List, [], _∷_}
 use mathlib.Core.Logic.{_⊎_, inl, inr, _↔_}

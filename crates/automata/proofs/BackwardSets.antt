@@ -1,6 +1,6 @@
 -- The laws of backward sets: which states are in one, that it grows with the case, that only the set of a symbol's rows matters; and what the walk
 -- over the rows has gathered. Assumes nothing.
-use Prim.Native.Nat.{ℕ, zero, suc, _+_, _-_, _*_, _/_, _%_, _≤_, _<_}
+use Prim.Native.Nat.{ℕ, suc, _+_, _-_, _*_, _/_, _%_, _≤_, _<_}
 use mathlib.Core.Path.{_≡_, refl, sym, ap, subst, _∙_}
 use mathlib.Core.Bool.{Bool, true, false}
 use mathlib.Core.List.{List, [], _∷_}
@@ -23,8 +23,8 @@ use Rattle.masks.proofs.Laws.{
   members-within,
 }
 use Rattle.automata.specs.Bytes.{byteAt}
-use Rattle.automata.specs.Image.{Row, Valid, statesOf, symbolsOf, offsetOf, sizeOf, rowAt, rowsFrom, rowsOf, Span}
-use Rattle.automata.specs.Automaton.{Automaton, automatonOf, withRow, withRows, backward, takenBack, SameAutomaton}
+use Rattle.automata.specs.Image.{Row, Valid, symbolsOf, offsetOf, sizeOf, rowAt, rowsFrom, rowsOf, Span}
+use Rattle.automata.specs.Automaton.{Automaton, withRow, withRows, backward, takenBack, SameAutomaton}
 use Rattle.automata.proofs.ValidImage.{valid-kept, span-in, span-nines, pair-in, valid-row}
 
 -- the row is one of state q, and its case is inside X

@@ -1,17 +1,17 @@
 -- What an image that no check refuses keeps: its sizes, its spans, its rows; and what reading it answers. Assumes nothing.
 use Prim.Native.Nat.{ℕ, zero, suc, _+_, _-_, _*_, _/_, _%_, _≤_, _<_}
-use mathlib.Core.Path.{_≡_, refl, sym, ap, subst, _∙_}
+use mathlib.Core.Path.{_≡_, refl, sym, subst, _∙_}
 use mathlib.Core.Bool.{Bool, true, false}
-use mathlib.Core.List.{List, [], _∷_}
+use mathlib.Core.List.{List}
 use mathlib.Core.Logic.{_⊎_, inl, inr}
 use native.Mathlib.Nat.{le-of-eq}
 use native.Mathlib.Omega.{arith}
 use lib.Dec.{T, eqb, ltb, eqb→eq, ltb→lt}
 use borrow.Author.Tests.{eqb-false, ltb-false}
 use lib.ListN.{length}
-use Rattle.lists.specs.Tests.{_and_, _or_, neg}
-use Rattle.lists.specs.Lists.{_∈_, here, there, eachFrom}
-use Rattle.lists.proofs.Tests.{holds, fails, is-false, and-left, and-right, or-left, or-right, neg-neg, fails-neg}
+use Rattle.lists.specs.Tests.{_and_, _or_}
+use Rattle.lists.specs.Lists.{_∈_}
+use Rattle.lists.proofs.Tests.{is-false, and-left, and-right, or-left, or-right, neg-neg}
 use Rattle.lists.proofs.Lists.{in-none, in-cases, each-from-at}
 use Rattle.masks.specs.Sets.{within}
 use Rattle.automata.specs.Image.{
@@ -37,9 +37,7 @@ use Rattle.automata.specs.Image.{
   check,
   checkImage,
 }
-use Rattle.automata.specs.Answers.{headOf, readWith, readImage}
-use Rattle.automata.specs.declared.image.Head.{Head}
-use Rattle.automata.specs.declared.image.Image.{Image}
+use Rattle.automata.specs.Answers.{readImage}
 use Rattle.automata.specs.declared.image.Image.the-variants as Answer
 
 -- what the checks leave of an image that they do not refuse

@@ -2,7 +2,7 @@
 use Prim.Native.Nat.{ℕ, zero, suc, _+_, _-_, _≤_, _<_}
 use mathlib.Core.Path.{_≡_, refl, sym, ap, _∙_}
 use mathlib.Core.Bool.{Bool, true, false, not}
-use mathlib.Core.List.{List, [], _∷_}
+use mathlib.Core.List.{List}
 use native.Mathlib.Omega.{arith}
 use borrow.Author.Tests.{le-ltb, lt-ltb, not-true, not-false}
 use lib.Dec.{T, ltb, ltb→lt}
@@ -14,7 +14,7 @@ use Rattle.lists.proofs.Tests.{holds}
 use Rattle.lists.proofs.Lists.{at-in, drop-first, all-fails, all-holds, all-ends, all-each}
 use Rattle.masks.specs.Sets.{subset}
 use Rattle.automata.specs.Image.{Valid, symbolsOf, initialOf, finalOf, rowsOf, check, checkImage}
-use Rattle.automata.specs.Automaton.{Automaton, automatonOf, backward, takenBack}
+use Rattle.automata.specs.Automaton.{automatonOf, backward, takenBack}
 use Rattle.automata.specs.WordTest.{oneIf, accepts, known, testWord, wordTest}
 use Rattle.automata.specs.Answers.{headOf, readWith, readImage}
 use Rattle.automata.specs.declared.image.Head.{Head}

@@ -15,7 +15,7 @@ use Rattle.machine.specs.Machine.{Blocker, leaves, staying}
 use Rattle.machine.specs.Lent.{blockersFrom, column, maskOf, levelOf, placed}
 use Rattle.blockers.specs.Room.{Holds, blockerAt, tableOf, Placed, over, ClosedUp, Cleared}
 use Rattle.machine.proofs.LentTables.{column-length, placed-length}
-use Rattle.blockers.proofs.Over.{column-append, over-length, over-behind, over-store, over-over, over-nothing}
+use Rattle.blockers.proofs.Over.{column-append, over-behind, over-store, over-over, over-nothing}
 
 -- the blockers in use are as many as are held
 pub blockers-length : (masks levels : List ℕ) (count at : ℕ) → length (blockersFrom masks levels count at) ≡ count

@@ -1,32 +1,30 @@
 -- The ways through a block: the set finds no place, or it enters and the pending case leaves. Assumes nothing.
 use Prim.Native.Nat.{ℕ, zero, suc, _+_, _-_, _≤_, _<_, max}
-use mathlib.Core.Path.{_≡_, refl, sym, ap, ap₂, subst, _∙_}
+use mathlib.Core.Path.{_≡_, refl, sym, ap, subst, _∙_}
 use mathlib.Core.Bool.{Bool, true, false}
-use mathlib.Core.List.{List, [], _∷_, _++_, append-assoc}
+use mathlib.Core.List.{List, append-assoc}
 use mathlib.Core.Option.{Option, none, some}
 use native.Mathlib.Numerals.{add-one}
 use native.Mathlib.Omega.{arith}
-use borrow.Author.Tests.{le-leb, lt-leb, leb-true, leb-false}
-use lib.Dec.{leb}
-use lib.ListN.{length, drop, replicate}
+use lib.ListN.{length}
 use Rattle.lists.specs.Tests.{choose}
 use Rattle.automata.specs.declared.image.Head.{Head}
-use Rattle.machine.specs.Machine.{Blocker, Pending, Configuration, byStates, passes, hintAt, chosenFrom, chosen, staying, finalPending, pendingAfter, blockStep, ifRoom, judge}
+use Rattle.machine.specs.Machine.{Blocker, Pending, byStates, passes, hintAt, chosenFrom, chosen, finalPending, pendingAfter, blockStep, ifRoom, judge}
 use Rattle.machine.specs.Machine as Machine
-use Rattle.machine.specs.Lent.{blockersFrom, pendingFirst, columnBack, caseOf, symbolOf, placed}
+use Rattle.machine.specs.Lent.{pendingFirst, columnBack, caseOf, symbolOf, placed}
 use Rattle.machine.specs.Runs.{systemOf}
-use Rattle.machine.proofs.LentTables.{column-back-length, pending-length, read-back-pending, placed-length, placed-placed, placed-cases, placed-symbols}
-use Rattle.blockers.specs.Room.{Holds, Placed, tableOf, entering, enteredAnswer, enteredTable, Enters}
+use Rattle.machine.proofs.LentTables.{column-back-length, pending-length, read-back-pending, placed-placed, placed-cases, placed-symbols}
+use Rattle.blockers.specs.Room.{tableOf, entering, Enters}
 use Rattle.blockers.specs.declared.Entered.{Entered}
 use Rattle.blockers.specs.declared.Entered.the-variants.{Held, Full}
-use Rattle.blockers.proofs.Placing.{same-masks, same-levels, blockers-length, placed-table, placed-masks-length, placed-levels-length}
+use Rattle.blockers.proofs.Placing.{placed-table, placed-masks-length, placed-levels-length}
 use Rattle.blockers.proofs.Changes.{held-room, held-count, held-fits, held-placed, full-room, full-masks, full-levels}
 use Rattle.choices.specs.Found.{Given, choiceOf}
 use Rattle.choices.specs.declared.Choice.{Choice}
 use Rattle.pending.specs.Room.{Holds as HoldsWord, Placed as PlacedWord}
 use Rattle.checker.specs.declared.record.Run.{Run}
-use Rattle.checker.specs.Stage.{Stage, stage, configurationOf, recordOf, left, after, judged, Ready, Stopped, Pends, blockedRecord, Unpends, Countable}
-use Rattle.checker.proofs.Stages.{ready-given, ready-word, stopped-is, stage-same}
+use Rattle.checker.specs.Stage.{Stage, stage, configurationOf, left, after, judged, Ready, Stopped, Pends, blockedRecord, Unpends, Countable}
+use Rattle.checker.proofs.Stages.{ready-given, stopped-is, stage-same}
 
 -- what stays pending, or F where nothing does
 pub after-none : (image cases symbols cases′ symbols′ : List ℕ) (table : List Blocker) (level rest count : ℕ) → rest ≡ 0

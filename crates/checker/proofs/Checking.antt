@@ -1,24 +1,23 @@
 -- A run for every input: its checks, the clearing before it, and its result. Assumes nothing.
 use Prim.Native.Nat.{ℕ, zero, suc, _+_, _-_, _≤_, _<_, max}
-use mathlib.Core.Path.{_≡_, refl, sym, ap, ap₂, subst, _∙_}
-use mathlib.Core.Bool.{Bool, true, false}
-use mathlib.Core.List.{List, [], _∷_, _++_, append-nil}
+use mathlib.Core.Path.{_≡_, refl, sym, ap, ap₂, _∙_}
+use mathlib.Core.List.{List, [], _++_, append-nil}
 use native.Mathlib.Nat.{sub-zero}
 use native.Mathlib.Omega.{arith}
 use borrow.Author.Tests.{eq-eqb, ne-eqb, lt-ltb, le-ltb, ltb-false}
-use lib.Dec.{T, eqb, ltb, eqb→eq}
+use lib.Dec.{eqb, eqb→eq}
 use lib.ListN.{length, replicate, length-replicate, drop-of-length-le}
 use Rattle.lists.specs.Tests.{_or_, neg}
 use Rattle.lists.proofs.Tests.{is-false, or-left, or-right, neg-neg}
 use Rattle.automata.specs.Image.{Valid, check, checkImage}
-use Rattle.automata.specs.Answers.{headOf, readWith, readImage}
+use Rattle.automata.specs.Answers.{readWith, readImage}
 use Rattle.automata.specs.declared.image.Head.{Head}
 use Rattle.automata.specs.declared.image.Image.{Image}
 use Rattle.automata.specs.declared.image.Image.the-variants as Answer
 use Rattle.automata.proofs.WordTests.{answer-valid, answer-head}
-use Rattle.machine.specs.Machine.{Configuration, Rooms, byStates, machine, Outcome, nonempty, empty, stepsLack, blockersLack, wordLacks}
+use Rattle.machine.specs.Machine.{Configuration, byStates, machine, Outcome, nonempty, empty, stepsLack, blockersLack, wordLacks}
 use Rattle.machine.specs.Lent.{column, maskOf, levelOf, placed}
-use Rattle.machine.specs.Runs.{Lent, Result, systemOf, roomsOf, refused, ended, resultOf, oddRooms, oversize, checkRooms, checkRun, outcomeOf, runWith, runOf}
+use Rattle.machine.specs.Runs.{Result, systemOf, roomsOf, refused, ended, resultOf, oddRooms, oversize, checkRooms, checkRun, outcomeOf, runWith, runOf}
 use Rattle.machine.proofs.RunsKept.{check-fails}
 use Rattle.checker.specs.declared.record.Run.{Run}
 use Rattle.checker.specs.declared.run.Counts.{Counts}

@@ -1,24 +1,22 @@
 -- A close as a step of the run: it works on, or ends with the frame. Assumes nothing.
-use Prim.Native.Nat.{ℕ, suc, _+_, _≤_, _<_}
-use mathlib.Core.Path.{_≡_, refl, sym, ap, subst, _∙_}
+use Prim.Native.Nat.{ℕ, suc, _+_, _<_}
+use mathlib.Core.Path.{_≡_, refl, sym, ap, _∙_}
 use mathlib.Core.Bool.{Bool, true, false}
 use mathlib.Core.List.{List, []}
 use mathlib.Core.Option.{Option, none, some}
 use native.Mathlib.Numerals.{add-one}
 use native.Mathlib.Omega.{arith}
-use lib.ListN.{length}
 use Rattle.lists.specs.Tests.{choose}
 use Rattle.automata.specs.declared.image.Head.{Head}
-use Rattle.machine.specs.System.{System}
-use Rattle.machine.specs.Machine.{Blocker, Configuration, Step, frame, closeWith, closeStep, judge}
+use Rattle.machine.specs.Machine.{Blocker, Configuration, frame, closeWith, closeStep, judge}
 use Rattle.machine.specs.Lent.{column, columnBack, maskOf, levelOf, placed}
 use Rattle.machine.specs.Runs.{systemOf}
-use Rattle.blockers.specs.Room.{tableOf, Placed}
+use Rattle.blockers.specs.Room.{tableOf}
 use Rattle.closing.specs.Close.{lowestNone, keptBy, isEmpty, risenBy, emptyLevel, closedBy, Closes}
 use Rattle.closing.specs.declared.Closed.{Closed}
 use Rattle.checker.specs.declared.record.Run.{Run}
-use Rattle.checker.specs.Stage.{Stage, stage, configurationOf, recordOf, left, after, judged, Ready}
-use Rattle.checker.proofs.Stages.{ready-given, stage-same, placed-nothing}
+use Rattle.checker.specs.Stage.{stage, configurationOf, recordOf, left, after, judged, Ready}
+use Rattle.checker.proofs.Stages.{stage-same, placed-nothing}
 
 -- the answer of a close, by whether a level holds no blocker
 pub answer-empty : (b : Bool) → b ≡ true → _≡_ {A = ℕ} 0 (choose b 0 6)

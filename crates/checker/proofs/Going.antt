@@ -1,12 +1,12 @@
 -- The loop of a run: the stage shows what the machine has come to, in tables that began all 0, and every step leads on to the machine's outcome.
 -- Assumes nothing.
-use Prim.Native.Nat.{ℕ, zero, suc, _+_, _-_, _≤_, _<_, max}
+use Prim.Native.Nat.{ℕ, suc, _-_, _≤_, _<_}
 use mathlib.Core.Path.{_≡_, refl, sym, ap, ap₂, subst, _∙_}
 use mathlib.Core.Bool.{Bool, true, false}
-use mathlib.Core.List.{List, [], _∷_, _++_}
+use mathlib.Core.List.{List, []}
 use native.Mathlib.Nat.{sub-zero}
 use native.Mathlib.Omega.{arith}
-use borrow.Author.Tests.{le-leb, lt-leb, leb-true, leb-false}
+use borrow.Author.Tests.{leb-true, leb-false}
 use lib.Dec.{leb, eqb}
 use lib.ListN.{length}
 use Rattle.lists.specs.Tests.{choose, _or_}
@@ -15,22 +15,20 @@ use Rattle.masks.specs.Sets.{subset}
 use Rattle.automata.specs.Image.{Valid, initialOf, finalOf}
 use Rattle.automata.specs.Answers.{headOf}
 use Rattle.automata.specs.declared.image.Head.{Head}
-use Rattle.machine.specs.Machine.{Blocker, Pending, Configuration, Rooms, byStates, step, Next, goesOn, ends, judge, drive, atStart, startWith, machine, beginning}
+use Rattle.machine.specs.Machine.{Configuration, Rooms, byStates, step, Next, goesOn, ends, judge, drive, atStart, startWith, machine, beginning}
 use Rattle.machine.specs.Machine.{Outcome, nonempty, empty, stepsLack, blockersLack, wordLacks}
 use Rattle.machine.specs.Meaning.{Reached, first, next}
-use Rattle.machine.specs.Lent.{blockersFrom, pendingFirst, column, columnBack, maskOf, levelOf, caseOf, symbolOf, placed}
-use Rattle.machine.specs.Runs.{Lent, Result, systemOf, roomsOf, ended, resultOf, outcomeOf}
+use Rattle.machine.specs.Lent.{blockersFrom, column, columnBack, maskOf, levelOf, caseOf, symbolOf, placed}
+use Rattle.machine.specs.Runs.{Lent, systemOf, roomsOf, ended, resultOf, outcomeOf}
 use Rattle.machine.proofs.LentTables.{column-length, column-back-length, placed-length, placed-again, read-back-placed}
 use Rattle.machine.proofs.Passing.{byStates-sound}
 use Rattle.machine.proofs.Steps.{made-counts}
 use Rattle.machine.proofs.Steps.{driven as afterNext}
-use Rattle.machine.proofs.Standing.{Counted, Standing, reached-counted, reached-standing}
+use Rattle.machine.proofs.Standing.{Counted, reached-counted, reached-standing}
 use Rattle.machine.proofs.Images.{image-lawful}
-use Rattle.blockers.specs.Room.{Placed}
 use Rattle.blockers.proofs.Placing.{placed-table}
 use Rattle.checker.specs.declared.record.Run.{Run}
-use Rattle.checker.specs.Stage.{Stage, stage, configurationOf, recordOf, left, after, judged, testedStep, stepOf, Ready}
-use Rattle.checker.specs.declared.run.Counts.{Counts}
+use Rattle.checker.specs.Stage.{Stage, stage, configurationOf, left, after, judged, testedStep, stepOf, Ready}
 use Rattle.checker.specs.Whole.{Checked, Cleared, Runnable, lentOf, countsIn, resultWith, startRecord, machineResult}
 use Rattle.checker.proofs.Stages.{stage-same}
 

@@ -1,22 +1,21 @@
 -- The ways through an open: the level equals the word room, or the level grows and F may become pending. Assumes nothing.
 use Prim.Native.Nat.{ℕ, suc, _+_, _≤_, _<_}
-use mathlib.Core.Path.{_≡_, refl, sym, ap, ap₂, _∙_}
-use mathlib.Core.Bool.{Bool, true, false}
-use mathlib.Core.List.{List, []}
+use mathlib.Core.Path.{_≡_, refl, sym, _∙_}
+use mathlib.Core.Bool.{true}
+use mathlib.Core.List.{List}
 use native.Mathlib.Numerals.{add-one}
 use native.Mathlib.Omega.{arith}
 use borrow.Author.Tests.{lt-ltb, le-ltb}
 use lib.ListN.{length}
 use Rattle.automata.specs.declared.image.Head.{Head}
-use Rattle.machine.specs.Machine.{Configuration, finalPending, openStep, ifRoom, judge, ends, Outcome}
-use Rattle.machine.specs.Lent.{blockersFrom, columnBack, caseOf, symbolOf, placed}
+use Rattle.machine.specs.Machine.{Configuration, finalPending, openStep, ifRoom, judge}
+use Rattle.machine.specs.Lent.{blockersFrom, columnBack, caseOf, symbolOf}
 use Rattle.machine.specs.Runs.{systemOf}
 use Rattle.machine.proofs.LentTables.{column-back-length}
 use Rattle.blockers.proofs.Placing.{blockers-length}
-use Rattle.choices.specs.Found.{Given}
 use Rattle.pending.specs.Room.{Holds as HoldsWord}
 use Rattle.checker.specs.declared.record.Run.{Run}
-use Rattle.checker.specs.Stage.{Stage, stage, configurationOf, recordOf, left, after, judged, Ready, Stopped, Pends}
+use Rattle.checker.specs.Stage.{stage, configurationOf, after, judged, Ready, Stopped, Pends}
 use Rattle.checker.proofs.Stages.{left-word, stopped-is}
 
 module _ {image : List ℕ} {head : Head} {masks levels cases symbols : List ℕ} {run : Run} (ready : Ready image head (stage masks levels cases symbols run)) where

@@ -1,21 +1,17 @@
 -- A whole run: what it begins with, that each step leads on to the machine's outcome, and what stands at its end. Assumes nothing.
-use Prim.Native.Nat.{ℕ, zero, suc, _+_, _-_, _≤_, _<_, max}
-use mathlib.Core.Path.{_≡_, refl, sym, ap, ap₂, subst, _∙_}
+use Prim.Native.Nat.{ℕ, _+_, _-_, max}
+use mathlib.Core.Path.{_≡_, ap, _∙_}
 use mathlib.Core.Bool.{Bool, true, false}
-use mathlib.Core.List.{List, [], _∷_, _++_, append-nil}
-use mathlib.Core.Logic.{_⊎_, inl, inr}
+use mathlib.Core.List.{List, [], _++_}
 use native.Mathlib.Nat.{sub-zero}
 use native.Mathlib.Omega.{arith}
-use borrow.Author.Tests.{le-leb, lt-leb, eq-eqb, ne-eqb}
-use lib.Dec.{leb, eqb}
-use lib.ListN.{length, take, drop, replicate, length-replicate}
+use lib.ListN.{length, take, replicate, length-replicate}
 use Rattle.lists.specs.Tests.{choose}
 use Rattle.masks.specs.Sets.{subset}
 use Rattle.machine.specs.Lent.{columnBack, placed}
-use Rattle.blockers.specs.Room.{over, Holds}
+use Rattle.blockers.specs.Room.{over}
 use Rattle.blockers.specs.Room as Room
-use Rattle.pending.specs.Room.{Holds as HoldsWord, Placed as PlacedWord}
-use Rattle.checker.specs.declared.record.Run.{Run}
+use Rattle.pending.specs.Room.{Placed as PlacedWord}
 use Rattle.checker.specs.Whole.{Checked, Cleared, startRecord}
 
 -- the start's record, by the test

@@ -1,5 +1,5 @@
 -- What a step leaves where it touches only one of the rooms, and what the record's bounds give. Assumes nothing.
-use Prim.Native.Nat.{ℕ, zero, suc, _+_, _-_, _≤_, _<_}
+use Prim.Native.Nat.{ℕ, _-_}
 use mathlib.Core.Path.{_≡_, refl, sym, ap, ap₂, _∙_}
 use mathlib.Core.Bool.{Bool, true, false}
 use mathlib.Core.List.{List, [], _∷_}
@@ -13,13 +13,12 @@ use Rattle.automata.specs.Answers.{headOf}
 use Rattle.machine.specs.Machine.{Blocker, Configuration, blocked, pendingFinal, finalPending}
 use Rattle.machine.specs.Lent.{blockersFrom, pendingFirst, column, columnBack, maskOf, levelOf, placed}
 use Rattle.machine.specs.Runs.{systemOf}
-use Rattle.blockers.specs.Room.{Holds}
 use Rattle.blockers.specs.Room.{Placed, tableOf}
 use Rattle.blockers.proofs.Placing.{same-masks, same-levels, blockers-length}
 use Rattle.choices.specs.Found.{Given}
 use Rattle.pending.specs.Room.{Holds as HoldsWord, Placed as PlacedWord}
 use Rattle.checker.specs.declared.record.Run.{Run}
-use Rattle.checker.specs.Stage.{Stage, stage, configurationOf, recordOf, left, Ready, Stopped, Pends}
+use Rattle.checker.specs.Stage.{stage, configurationOf, recordOf, left, Ready, Stopped, Pends}
 
 module _ {image : List ℕ} {head : Head} {masks levels cases symbols : List ℕ} {run : Run} (ready : Ready image head (stage masks levels cases symbols run)) where
   pub ready-given : Given image head masks levels (run .held)

@@ -1,6 +1,6 @@
 -- The ways through the work on a pending case: a word is found, one more case becomes pending, or no symbol qualifies. Assumes nothing.
 use Prim.Native.Nat.{ℕ, zero, suc, _+_, _-_, _≤_, _<_}
-use mathlib.Core.Path.{_≡_, refl, sym, ap, ap₂, subst, _∙_}
+use mathlib.Core.Path.{_≡_, refl, sym, ap, ap₂, _∙_}
 use mathlib.Core.Bool.{Bool, true, false}
 use mathlib.Core.List.{List, [], _∷_}
 use mathlib.Core.Option.{Option, none, some}
@@ -8,18 +8,17 @@ use native.Mathlib.Numerals.{add-one}
 use native.Mathlib.Omega.{arith}
 use lib.Dec.{T}
 use lib.ListN.{length, getD}
-use Rattle.lists.specs.Tests.{_or_, neg}
+use Rattle.lists.specs.Tests.{_or_}
 use Rattle.lists.specs.Lists.{firstFrom}
-use Rattle.lists.proofs.Tests.{holds, fails, or-right, neg-fails, fails-neg}
+use Rattle.lists.proofs.Tests.{fails, or-right, neg-fails, fails-neg}
 use Rattle.lists.proofs.Lists.{first-from-some}
 use Rattle.masks.specs.Sets.{subset}
 use Rattle.automata.specs.Image.{symbolsOf, initialOf}
-use Rattle.automata.specs.Answers.{headOf}
 use Rattle.automata.specs.declared.image.Head.{Head}
 use Rattle.automata.specs.declared.image.Symbol.{Symbol}
 use Rattle.machine.specs.System.{System}
-use Rattle.machine.specs.Machine.{Blocker, Pending, Configuration, byStates, blocked, qualifies, chosen, wordOf, extendStep, blockStep, workOn, workStep, judge}
-use Rattle.machine.specs.Lent.{blockersFrom, pendingFirst, columnBack, caseOf, symbolOf, placed}
+use Rattle.machine.specs.Machine.{Pending, Configuration, byStates, blocked, qualifies, chosen, wordOf, extendStep, blockStep, workOn, workStep, judge}
+use Rattle.machine.specs.Lent.{blockersFrom, pendingFirst, columnBack, caseOf, symbolOf}
 use Rattle.machine.specs.Runs.{systemOf}
 use Rattle.machine.proofs.LentTables.{column-back-length, pending-length}
 use Rattle.blockers.specs.Room.{tableOf}
@@ -29,7 +28,7 @@ use Rattle.choices.specs.declared.Found.{Found}
 use Rattle.choices.specs.declared.Found.the-variants.{At, Nothing}
 use Rattle.pending.specs.Room.{Holds as HoldsWord}
 use Rattle.checker.specs.declared.record.Run.{Run}
-use Rattle.checker.specs.Stage.{Stage, stage, configurationOf, recordOf, left, after, judged, Ready, FindsWord, PendsMore, lowestPending}
+use Rattle.checker.specs.Stage.{stage, configurationOf, recordOf, after, judged, Ready, FindsWord, PendsMore, lowestPending}
 use Rattle.checker.proofs.Stages.{left-word, stage-same}
 
 -- what the search for a symbol says of the first symbol that qualifies

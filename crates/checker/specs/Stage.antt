@@ -10,7 +10,7 @@ use Rattle.automata.specs.Image.{Valid}
 use Rattle.automata.specs.Answers.{headOf}
 use Rattle.automata.specs.declared.image.Head.{Head}
 use Rattle.machine.specs.Machine.{Pending, Configuration, byStates, Step, step, Next, goesOn, ends, judge}
-use Rattle.machine.specs.Machine.{Outcome, nonempty, empty, stepsLack, blockersLack, wordLacks}
+use Rattle.machine.specs.Machine.{nonempty, empty, stepsLack, blockersLack, wordLacks}
 use Rattle.machine.specs.Lent.{blockersFrom, pendingFirst, column, columnBack, maskOf, levelOf, caseOf, symbolOf, placed}
 use Rattle.machine.specs.Runs.{Lent, systemOf, roomsOf}
 use Rattle.checker.specs.declared.record.Run.{Run}

@@ -6,16 +6,15 @@ use blockers::Entered;
 use blockers::Level;
 use choices::Found;
 ghost use mathlib.Core.Path.{_≡_};
-ghost use mathlib.Core.List.{[], _∷_};
+ghost use mathlib.Core.List.{_∷_};
 ghost use Prim.Native.Nat.{_+_, _-_, _≤_, _<_};
-ghost use lib.ListN.{length, getD};
 ghost use Rattle.lists.specs.Tests.{choose};
 ghost use Rattle.machine.specs.Machine.{finalPending, pendingAfter, openStep, blockStep, chosen, byStates, wordOf, workStep, closeStep};
 ghost use Rattle.machine.specs.Lent.{pendingFirst};
 ghost use Rattle.machine.specs.Runs.{systemOf};
 ghost use Rattle.blockers.specs.Room.{tableOf};
 ghost use Rattle.choices.specs.Found.{Given};
-ghost use Rattle.pending.specs.Room.{Holds as HoldsWord, Placed as PlacedWord};
+ghost use Rattle.pending.specs.Room.{Holds as HoldsWord};
 ghost use Rattle.checker.specs.Stage.{Ready, Stopped, Pends, Unpends, Countable, FindsWord, PendsMore, lowestPending, stage, configurationOf, judged, stepOf};
 
 // The run ends without a verdict, under the number of what it lacks: nothing stays pending.

@@ -1,10 +1,9 @@
 -- One change of the blocker room after another is a change of what stood there first. Assumes nothing.
-use Prim.Native.Nat.{ℕ, _+_, _-_, _≤_, max}
+use Prim.Native.Nat.{ℕ, _-_, _≤_, max}
 use mathlib.Core.Path.{_≡_, refl, sym, ap, subst, _∙_}
-use mathlib.Core.List.{List, _++_, append-assoc}
+use mathlib.Core.List.{List}
 use native.Mathlib.Omega.{arith}
-use lib.ListN.{length, drop, replicate, replicate-append-replicate}
-use lib.Seq.{drop-at}
+use lib.ListN.{length}
 use Rattle.machine.specs.Machine.{Blocker}
 use Rattle.machine.specs.Lent.{column, maskOf, levelOf, placed}
 use Rattle.blockers.specs.Room.{Holds, tableOf, Placed}

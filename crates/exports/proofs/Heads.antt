@@ -1,6 +1,6 @@
 -- What afa_read leaves in the head's five places, by the reader's answer. Assumes nothing.
 use Prim.Native.Nat.{ℕ}
-use mathlib.Core.Path.{_≡_, refl, sym, _∙_}
+use mathlib.Core.Path.{_≡_, sym}
 use mathlib.Core.List.{List, [], _∷_}
 use Rattle.automata.specs.Answers.{readImage}
 use Rattle.automata.specs.declared.image.Head.{Head}

@@ -1,9 +1,9 @@
 -- What afa_run gives back is the run's result. Assumes nothing.
 use Prim.Native.Nat.{ℕ}
-use mathlib.Core.Path.{_≡_, refl, ap}
+use mathlib.Core.Path.{_≡_, ap}
 use mathlib.Core.List.{List, [], _∷_}
-use Rattle.machine.specs.Runs.{Lent, Result}
-use Rattle.checker.specs.Whole.{lentOf, resultWith}
+use Rattle.machine.specs.Runs.{Result}
+use Rattle.checker.specs.Whole.{resultWith}
 use Rattle.checker.specs.declared.run.Counts.{Counts}
 use Rattle.exports.specs.Interface.{countsOf, Ran}
 

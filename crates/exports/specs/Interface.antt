@@ -4,7 +4,6 @@ use mathlib.Core.Path.{_≡_}
 use mathlib.Core.List.{List, [], _∷_}
 use Rattle.machine.specs.Runs.{Result}
 use Rattle.checker.specs.Whole.{lentOf}
-use Rattle.automata.specs.declared.image.Head.{Head}
 use Rattle.automata.specs.declared.image.Image.{Image}
 use Rattle.automata.specs.declared.image.Image.the-variants.{Valid, Refused}
 

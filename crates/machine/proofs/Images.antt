@@ -1,22 +1,22 @@
 -- The backward system of a valid image: it is lawful, it accepts the words that runs accept, and one automaton gives one language. Assumes nothing.
 use Prim.Native.Nat.{ℕ, _<_}
-use mathlib.Core.Path.{_≡_, refl, sym, ap, ap₂, subst, _∙_}
+use mathlib.Core.Path.{_≡_, refl, sym, ap, subst, _∙_}
 use mathlib.Core.Bool.{Bool, true, false}
 use mathlib.Core.List.{List, [], _∷_}
 use mathlib.Core.Logic.{_⊎_, inl, inr, _↔_}
 use lib.Dec.{T}
 use Rattle.lists.specs.Tests.{_or_}
-use Rattle.lists.specs.Lists.{_∈_, Each, any}
+use Rattle.lists.specs.Lists.{_∈_, any}
 use Rattle.lists.proofs.Lists.{in-none, in-cases}
 use Rattle.masks.specs.Sets.{subset, within}
-use Rattle.automata.specs.Image.{Valid, statesOf, symbolsOf, initialOf, finalOf, rowsOf}
-use Rattle.automata.specs.Automaton.{Automaton, automatonOf, backward, HoldOne}
+use Rattle.automata.specs.Image.{Valid, statesOf, initialOf, finalOf, rowsOf}
+use Rattle.automata.specs.Automaton.{automatonOf, backward, HoldOne}
 use Rattle.automata.specs.Automaton.{takenBack as takenBackBy}
 use Rattle.automata.specs.Acceptance.{Accepted}
 use Rattle.automata.specs.WordTest.{accepts as acceptsBack}
 use Rattle.automata.proofs.BackwardSets.{backward-monotone, backward-within}
-use Rattle.automata.proofs.AcceptedWords.{Proper, valid-proper, accepted-means}
-use Rattle.machine.specs.System.{System, takenBack, Word, accepts, Lawful}
+use Rattle.automata.proofs.AcceptedWords.{valid-proper, accepted-means}
+use Rattle.machine.specs.System.{takenBack, Word, accepts, Lawful}
 use Rattle.machine.specs.Meaning.{SameLanguage}
 use Rattle.machine.specs.Runs.{systemOf}
 use Rattle.machine.proofs.WordTests.{same-accepts}

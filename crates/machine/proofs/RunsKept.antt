@@ -2,27 +2,26 @@
 use Prim.Native.Nat.{ℕ, zero, suc, _+_, _-_, _^_, _≤_, _<_}
 use mathlib.Core.Path.{_≡_, refl, sym, ap, subst, _∙_}
 use mathlib.Core.Bool.{Bool, true, false}
-use mathlib.Core.List.{List, [], _∷_, _++_}
-use mathlib.Core.Logic.{_⊎_, inl, inr, _↔_}
+use mathlib.Core.List.{List, [], _++_}
+use mathlib.Core.Logic.{_⊎_, inl, inr}
 use native.Mathlib.Nat.{sub-zero}
 use native.Mathlib.Omega.{arith}
 use borrow.Author.Tests.{eqb-true}
-use lib.Dec.{T, eqb}
+use lib.Dec.{T}
 use lib.ListN.{length, replicate}
-use Rattle.lists.specs.Tests.{_or_, neg}
-use Rattle.lists.specs.Lists.{Each}
+use Rattle.lists.specs.Tests.{_or_}
 use Rattle.lists.proofs.Tests.{is-true, or-left, or-right, neg-neg}
 use Rattle.automata.specs.Image.{Valid, check, checkImage, statesOf}
 use Rattle.automata.specs.Automaton.{automatonOf, HoldOne}
 use Rattle.automata.specs.Acceptance.{Accepted}
 use Rattle.automata.proofs.Checks.{check-number}
-use Rattle.machine.specs.System.{System, Word, accepts, Lawful}
-use Rattle.machine.specs.Machine.{Blocker, Configuration, Growth, Rooms, byStates, machine}
+use Rattle.machine.specs.System.{System, Lawful}
+use Rattle.machine.specs.Machine.{Configuration, byStates, machine}
 use Rattle.machine.specs.Machine.{Outcome, nonempty, empty, stepsLack, blockersLack, wordLacks}
-use Rattle.machine.specs.Meaning.{Closed, Shortest, Sound, IsVerdict, Agree, both-nonempty, both-empty, OutOfSteps, OutOfBlockers, OutOfWord}
+use Rattle.machine.specs.Meaning.{Closed, Sound, IsVerdict, Agree, both-nonempty, both-empty, OutOfSteps, OutOfBlockers, OutOfWord}
 use Rattle.machine.specs.Meaning.{Decided, decidedNonempty, decidedEmpty}
-use Rattle.machine.specs.Lent.{blockersFrom, column, maskOf, levelOf, placed}
-use Rattle.machine.specs.Runs.{Lent, Result, systemOf, roomsOf, refused, ended, resultOf, oddRooms, oversize, checkRooms, checkRun, outcomeOf, runWith, runOf}
+use Rattle.machine.specs.Lent.{blockersFrom, column, maskOf, levelOf}
+use Rattle.machine.specs.Runs.{Lent, Result, systemOf, roomsOf, refused, ended, resultOf, oddRooms, checkRooms, checkRun, outcomeOf, runWith, runOf}
 use Rattle.machine.specs.Promises.{heldBy, Refused, WordFound, StoppedAt, Decides, RunPromises, Agreed}
 use Rattle.machine.proofs.Passing.{byStates-sound}
 use Rattle.machine.proofs.Verdicts.{closed-none, nonempty-right, empty-right}

@@ -10,9 +10,9 @@ use Rattle.automata.specs.WordTest.{oneIf, accepts, known, testWord, wordTest}
 use Rattle.machine.specs.Machine.{beginning, covers, blocked, pendingFinal, finalPending, openStep, qualifies, wordOf, extendStep, passes}
 use Rattle.machine.specs.Machine.{withState, withStates, byStates, hintAt, chosenFrom, chosen, leaves, staying, pendingAfter, blockStep}
 use Rattle.machine.specs.Machine.{workOn, workStep, rises, risen, riseAlong, riseLevels, noneAt, frame, closeWith, closeStep}
-use Rattle.machine.specs.Machine.{stepOn, step, ifRoom, judge, drive, atStart, startWith, machine}
+use Rattle.machine.specs.Machine.{step, ifRoom, judge, drive, atStart, startWith, machine}
 use Rattle.machine.specs.Lent.{column, placed}
-use Rattle.machine.specs.Runs.{refused, ended, resultOf, oddRooms, oversize, checkRooms, checkRun, outcomeOf, runWith, runOf}
+use Rattle.machine.specs.Runs.{refused, ended, resultOf, oddRooms, oversize, checkRooms, checkRun, outcomeOf, runOf}
 use Rattle.machine.specs.Starred.{starred, Right, AllRight}
 
 pub starred-right : AllRight starred

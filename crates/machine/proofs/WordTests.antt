@@ -1,23 +1,23 @@
 -- The promises of the word test. Assumes nothing.
 use Prim.Native.Nat.{ℕ, zero, suc, _≤_, _<_}
-use mathlib.Core.Path.{_≡_, refl, sym, ap, subst, _∙_}
-use mathlib.Core.Bool.{Bool, true, false}
-use mathlib.Core.List.{List, [], _∷_}
+use mathlib.Core.Path.{_≡_, refl, sym, ap, _∙_}
+use mathlib.Core.Bool.{false}
+use mathlib.Core.List.{List}
 use mathlib.Core.Logic.{_⊎_, inl, inr, _↔_}
 use native.Mathlib.Omega.{arith}
 use borrow.Author.Tests.{ltb-false}
-use lib.Dec.{T, ltb, ltb→lt, lt→ltb}
+use lib.Dec.{T, ltb, ltb→lt}
 use Rattle.lists.specs.Tests.{neg}
-use Rattle.lists.specs.Lists.{_∈_, here, there, Each, any, all}
-use Rattle.lists.proofs.Tests.{holds, fails, is-true, is-false, decide}
+use Rattle.lists.specs.Lists.{Each, all}
+use Rattle.lists.proofs.Tests.{fails, is-true, is-false, decide}
 use Rattle.lists.proofs.Lists.{all-each, Fails, all-or-one}
 use Rattle.automata.specs.Image.{Valid, check, checkImage, symbolsOf}
-use Rattle.automata.specs.Automaton.{Automaton, automatonOf, SameAutomaton, HoldOne, takenBack}
+use Rattle.automata.specs.Automaton.{Automaton, automatonOf, SameAutomaton, HoldOne}
 use Rattle.automata.specs.Acceptance.{Accepted}
 use Rattle.automata.specs.WordTest.{oneIf, accepts, known, testWord, wordTest}
 use Rattle.automata.proofs.Checks.{check-number}
 use Rattle.automata.proofs.BackwardSets.{taken-back-same}
-use Rattle.automata.proofs.AcceptedWords.{Proper, valid-proper, accepted-means}
+use Rattle.automata.proofs.AcceptedWords.{valid-proper, accepted-means}
 use Rattle.machine.specs.Promises.{HasUnknown}
 
 -- what the test's number says, in one of four ways

@@ -1,4 +1,3 @@
-use lib.Dec.{lit≤}
 use Rattle.automata.proofs.ValidImage.{head-in, read-refused, read-valid}
 use borrow.Author.Needs.{needs}
 use Rattle.automata.proofs.image.read_image.Statement.{statement}
