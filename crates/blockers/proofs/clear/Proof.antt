@@ -12,47 +12,36 @@ Inv-loop masks₀ levels₀ from to i₀ masks levels i = ClearingBoth from to i
 abbrev μ-loop : tie.MeasureT-loop
 μ-loop masks₀ levels₀ from to i₀ masks levels i = to - i
 
--- src/lib.rt:94:5
 loop-holds : tie.Need-loop-holds Inv-loop μ-loop
 loop-holds c = search (clear-starts, needs)
 
--- src/lib.rt:95:9
 mul-masks : tie.Need-mul-masks Inv-loop μ-loop
 mul-masks c = search needs
 
--- src/lib.rt:95:9
 slice-write-masks : tie.Need-slice-write-masks Inv-loop μ-loop
 slice-write-masks c = search needs
 
--- src/lib.rt:96:9
 mul-levels : tie.Need-mul-levels Inv-loop μ-loop
 mul-levels c = search needs
 
--- src/lib.rt:96:9
 slice-write-levels : tie.Need-slice-write-levels Inv-loop μ-loop
 slice-write-levels c = search needs
 
--- src/lib.rt:97:9
 add-i : tie.Need-add-i Inv-loop μ-loop
 add-i c = search needs
 
--- src/lib.rt:94:5
 loop-less : tie.Need-loop-less Inv-loop μ-loop
 loop-less c = search needs
 
--- src/lib.rt:94:5
 loop-again : tie.Need-loop-again Inv-loop μ-loop
 loop-again c = search (clear-goes, needs)
 
--- src/lib.rt:89:1
 same-length : tie.Need-same-length Inv-loop μ-loop
 same-length c = search (clear-masks-long, needs)
 
--- src/lib.rt:89:1
 same-length-2 : tie.Need-same-length-2 Inv-loop μ-loop
 same-length-2 c = search (clear-levels-long, needs)
 
--- src/lib.rt:89:1
 returns : tie.Need-returns Inv-loop μ-loop
 returns c = search (clear-ends, needs)
 

@@ -13,115 +13,87 @@ Inv-loop masks₀ levels₀ start from to mask level kept₀ i₀ masks levels k
 abbrev μ-loop : tie.MeasureT-loop
 μ-loop masks₀ levels₀ start from to mask level kept₀ i₀ masks levels kept i = to - i
 
--- src/lib.rt:70:5
 loop-holds : tie.Need-loop-holds Inv-loop μ-loop
 loop-holds c = search (close-starts, needs)
 
--- src/lib.rt:71:19
 mul-leaves : tie.Need-mul-leaves Inv-loop μ-loop
 mul-leaves c = search needs
 
--- src/lib.rt:71:19
 slice-read-leaves : tie.Need-slice-read-leaves Inv-loop μ-loop
 slice-read-leaves c = search needs
 
--- src/lib.rt:71:35
 mul-levels : tie.Need-mul-levels Inv-loop μ-loop
 mul-levels c = search needs
 
--- src/lib.rt:71:35
 slice-read-levels : tie.Need-slice-read-levels Inv-loop μ-loop
 slice-read-levels c = search needs
 
--- src/lib.rt:71:12
 leaves-requires : tie.Need-leaves-requires Inv-loop μ-loop
 leaves-requires c κs = search needs
 
--- src/lib.rt:72:13
 add-i : tie.Need-add-i Inv-loop μ-loop
 add-i c = search needs
 
--- src/lib.rt:70:5
 loop-less : tie.Need-loop-less Inv-loop μ-loop
 loop-less c = search needs
 
--- src/lib.rt:70:5
 loop-again : tie.Need-loop-again Inv-loop μ-loop
 loop-again c = search (close-leaves, needs)
 
--- src/lib.rt:76:13
 add-kept : tie.Need-add-kept Inv-loop μ-loop
 add-kept c = search needs
 
--- src/lib.rt:77:13
 add-i-2 : tie.Need-add-i-2 Inv-loop μ-loop
 add-i-2 c = search needs
 
--- src/lib.rt:70:5
 loop-less-2 : tie.Need-loop-less-2 Inv-loop μ-loop
 loop-less-2 c = search needs
 
--- src/lib.rt:70:5
 loop-again-2 : tie.Need-loop-again-2 Inv-loop μ-loop
 loop-again-2 c = close-stands (c .before .before .before .before .before .before .loop .inv) _ (c .before .before .before .before .before .loop-test .taken) (c .before .before .leaves .ensures) (c .before .if1 .left) (c .if2 .taken)
 
--- src/lib.rt:80:23
 mul-masks : tie.Need-mul-masks Inv-loop μ-loop
 mul-masks c = search needs
 
--- src/lib.rt:80:23
 slice-read-masks : tie.Need-slice-read-masks Inv-loop μ-loop
 slice-read-masks c = search needs
 
--- src/lib.rt:80:9
 mul-masks-2 : tie.Need-mul-masks-2 Inv-loop μ-loop
 mul-masks-2 c = search needs
 
--- src/lib.rt:80:9
 slice-write-masks : tie.Need-slice-write-masks Inv-loop μ-loop
 slice-write-masks c = search needs
 
--- src/lib.rt:81:24
 mul-levels-2 : tie.Need-mul-levels-2 Inv-loop μ-loop
 mul-levels-2 c = search needs
 
--- src/lib.rt:81:24
 slice-read-levels-2 : tie.Need-slice-read-levels-2 Inv-loop μ-loop
 slice-read-levels-2 c = search needs
 
--- src/lib.rt:81:9
 mul-levels-3 : tie.Need-mul-levels-3 Inv-loop μ-loop
 mul-levels-3 c = search needs
 
--- src/lib.rt:81:9
 slice-write-levels : tie.Need-slice-write-levels Inv-loop μ-loop
 slice-write-levels c = search needs
 
--- src/lib.rt:82:9
 add-kept-2 : tie.Need-add-kept-2 Inv-loop μ-loop
 add-kept-2 c = search needs
 
--- src/lib.rt:83:9
 add-i-3 : tie.Need-add-i-3 Inv-loop μ-loop
 add-i-3 c = search needs
 
--- src/lib.rt:70:5
 loop-less-3 : tie.Need-loop-less-3 Inv-loop μ-loop
 loop-less-3 c = search needs
 
--- src/lib.rt:70:5
 loop-again-3 : tie.Need-loop-again-3 Inv-loop μ-loop
 loop-again-3 c = close-stays (c .before .before .before .before .before .before .before .before .loop .inv) _ (c .before .before .before .before .before .before .before .loop-test .taken) (c .before .before .before .before .leaves .ensures) (c .before .before .before .if1 .left)
 
--- src/lib.rt:64:1
 same-length : tie.Need-same-length Inv-loop μ-loop
 same-length c = search (close-masks-long, needs)
 
--- src/lib.rt:64:1
 same-length-2 : tie.Need-same-length-2 Inv-loop μ-loop
 same-length-2 c = search (close-levels-long, needs)
 
--- src/lib.rt:64:1
 returns : tie.Need-returns Inv-loop μ-loop
 returns c = search (close-ends, needs)
 

@@ -14,39 +14,30 @@ Inv-loop masks levels held level case i₀ i = FoursSearched masks levels held (
 abbrev μ-loop : tie.MeasureT-loop
 μ-loop masks levels held level case i₀ i = held - i
 
--- src/lib.rt:65:5
 loop-holds : tie.Need-loop-holds Inv-loop μ-loop
 loop-holds c = search (fours-start, needs)
 
--- src/lib.rt:65:16
 sub-loop : tie.Need-sub-loop Inv-loop μ-loop
 sub-loop c = search needs
 
--- src/lib.rt:66:12
 four-cover-requires : tie.Need-four-cover-requires Inv-loop μ-loop
 four-cover-requires c κs = search needs
 
--- src/lib.rt:67:13
 returns : tie.Need-returns Inv-loop μ-loop
 returns c = search (fours-here, needs)
 
--- src/lib.rt:69:9
 add-i : tie.Need-add-i Inv-loop μ-loop
 add-i c = search needs
 
--- src/lib.rt:65:5
 loop-less : tie.Need-loop-less Inv-loop μ-loop
 loop-less c = search needs
 
--- src/lib.rt:65:5
 loop-again : tie.Need-loop-again Inv-loop μ-loop
 loop-again c = search (fours-go, needs)
 
--- src/lib.rt:71:5
 covered-from-requires : tie.Need-covered-from-requires Inv-loop μ-loop
 covered-from-requires c κs = search needs
 
--- src/lib.rt:60:1
 returns-2 : tie.Need-returns-2 Inv-loop μ-loop
 returns-2 c = search (fours-rest, needs)
 

@@ -13,47 +13,36 @@ Inv-loop masks levels held from level case i₀ i = CoverSearched masks levels h
 abbrev μ-loop : tie.MeasureT-loop
 μ-loop masks levels held from level case i₀ i = held - i
 
--- src/lib.rt:49:5
 loop-holds : tie.Need-loop-holds Inv-loop μ-loop
 loop-holds c = search (cover-starts, needs)
 
--- src/lib.rt:50:19
 mul-covers : tie.Need-mul-covers Inv-loop μ-loop
 mul-covers c = search needs
 
--- src/lib.rt:50:19
 shared-slice-read-covers : tie.Need-shared-slice-read-covers Inv-loop μ-loop
 shared-slice-read-covers c = search needs
 
--- src/lib.rt:50:35
 mul-t13 : tie.Need-mul-t13 Inv-loop μ-loop
 mul-t13 c = search needs
 
--- src/lib.rt:50:35
 shared-slice-read-t15 : tie.Need-shared-slice-read-t15 Inv-loop μ-loop
 shared-slice-read-t15 c = search needs
 
--- src/lib.rt:50:12
 covers-requires : tie.Need-covers-requires Inv-loop μ-loop
 covers-requires c κs = search needs
 
--- src/lib.rt:51:13
 returns : tie.Need-returns Inv-loop μ-loop
 returns c = search (cover-here, needs)
 
--- src/lib.rt:53:9
 add-i : tie.Need-add-i Inv-loop μ-loop
 add-i c = search needs
 
--- src/lib.rt:49:5
 loop-less : tie.Need-loop-less Inv-loop μ-loop
 loop-less c = search needs
 
--- src/lib.rt:49:5
 loop-again : tie.Need-loop-again Inv-loop μ-loop
 loop-again c = search (cover-goes, needs)
 
--- src/lib.rt:44:1
 returns-2 : tie.Need-returns-2 Inv-loop μ-loop
 returns-2 c = search (cover-nowhere, needs)
 

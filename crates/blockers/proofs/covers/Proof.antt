@@ -6,15 +6,12 @@ use Rattle.blockers.proofs.covers.Reads as reads
 use Rattle.blockers.proofs.covers.Lts as lts
 use Rattle.masks.proofs.subset.Reads as subset-reads
 
--- src/lib.rt:17:9
 returns : tie.Need-returns
 returns c = search (covers-low, needs)
 
--- src/lib.rt:19:5
 subset-requires : tie.Need-subset-requires
 subset-requires c κs = search needs
 
--- src/lib.rt:13:1
 returns-2 : tie.Need-returns-2
 returns-2 c = search (covers-high, needs)
 

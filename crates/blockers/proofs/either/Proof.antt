@@ -5,7 +5,6 @@ use Rattle.blockers.proofs.either.Tie as tie
 use Rattle.blockers.proofs.either.Reads as reads
 use Rattle.blockers.proofs.either.Lts as lts
 
--- src/lib.rt:25:1
 returns : tie.Need-returns
 unfolding _or_
 returns c = search needs

@@ -9,55 +9,42 @@ use Rattle.blockers.proofs.enter.Lts as lts
 use Rattle.blockers.proofs.clear.Reads as clear-reads
 use Rattle.blockers.proofs.close_up.Reads as close-up-reads
 
--- src/lib.rt:113:9
 close-up-requires : tie.Need-close-up-requires
 close-up-requires c κs = search needs
 
--- src/lib.rt:115:9
 same-length : tie.Need-same-length
 same-length c = search needs
 
--- src/lib.rt:115:9
 same-length-2 : tie.Need-same-length-2
 same-length-2 c = search needs
 
--- src/lib.rt:115:9
 returns : tie.Need-returns
 returns c = search (enter-full, needs)
 
--- src/lib.rt:117:5
 mul-masks : tie.Need-mul-masks
 mul-masks c = search needs
 
--- src/lib.rt:117:5
 slice-write-masks : tie.Need-slice-write-masks
 slice-write-masks c = search needs
 
--- src/lib.rt:118:5
 mul-levels : tie.Need-mul-levels
 mul-levels c = search needs
 
--- src/lib.rt:118:5
 slice-write-levels : tie.Need-slice-write-levels
 slice-write-levels c = search needs
 
--- src/lib.rt:119:17
 add-count : tie.Need-add-count
 add-count c = search needs
 
--- src/lib.rt:120:5
 clear-requires : tie.Need-clear-requires
 clear-requires c κs = record { in-masks = simp length-set (omega arith); in-levels = simp length-set (omega arith) }
 
--- src/lib.rt:109:1
 same-length-3 : tie.Need-same-length-3
 same-length-3 c = omega (arith, simp length-set at (c .before .before .before .masks2 .given))
 
--- src/lib.rt:109:1
 same-length-4 : tie.Need-same-length-4
 same-length-4 c = omega (arith, simp length-set at (c .before .levels2 .given))
 
--- src/lib.rt:109:1
 returns-2 : tie.Need-returns-2
 returns-2 c = search (enter-held, needs)
 

@@ -7,123 +7,93 @@ use Rattle.blockers.proofs.four_cover.Lts as lts
 use Rattle.blockers.proofs.covers.Reads as covers-reads
 use Rattle.blockers.proofs.either.Reads as either-reads
 
--- src/lib.rt:36:24
 mul-covers : tie.Need-mul-covers
 mul-covers c = search needs
 
--- src/lib.rt:36:24
 shared-slice-read-covers : tie.Need-shared-slice-read-covers
 shared-slice-read-covers c = search needs
 
--- src/lib.rt:36:41
 mul-t13 : tie.Need-mul-t13
 mul-t13 c = search needs
 
--- src/lib.rt:36:41
 shared-slice-read-t15 : tie.Need-shared-slice-read-t15
 shared-slice-read-t15 c = search needs
 
--- src/lib.rt:36:9
 covers-requires : tie.Need-covers-requires
 covers-requires c κs = search needs
 
--- src/lib.rt:37:31
 add-covers : tie.Need-add-covers
 add-covers c = search needs
 
--- src/lib.rt:37:25
 mul-covers-2 : tie.Need-mul-covers-2
 mul-covers-2 c = search needs
 
--- src/lib.rt:37:25
 shared-slice-read-covers-2 : tie.Need-shared-slice-read-covers-2
 shared-slice-read-covers-2 c = search needs
 
--- src/lib.rt:37:53
 add-t18 : tie.Need-add-t18
 add-t18 c = search needs
 
--- src/lib.rt:37:46
 mul-t19 : tie.Need-mul-t19
 mul-t19 c = search needs
 
--- src/lib.rt:37:46
 shared-slice-read-t15-2 : tie.Need-shared-slice-read-t15-2
 shared-slice-read-t15-2 c = search needs
 
--- src/lib.rt:37:9
 covers-requires-2 : tie.Need-covers-requires-2
 covers-requires-2 c κs = search needs
 
--- src/lib.rt:38:30
 add-covers-2 : tie.Need-add-covers-2
 add-covers-2 c = search needs
 
--- src/lib.rt:38:24
 mul-covers-3 : tie.Need-mul-covers-3
 mul-covers-3 c = search needs
 
--- src/lib.rt:38:24
 shared-slice-read-covers-3 : tie.Need-shared-slice-read-covers-3
 shared-slice-read-covers-3 c = search needs
 
--- src/lib.rt:38:52
 add-t19 : tie.Need-add-t19
 add-t19 c = search needs
 
--- src/lib.rt:38:45
 mul-t18 : tie.Need-mul-t18
 mul-t18 c = search needs
 
--- src/lib.rt:38:45
 shared-slice-read-t15-3 : tie.Need-shared-slice-read-t15-3
 shared-slice-read-t15-3 c = search needs
 
--- src/lib.rt:38:9
 covers-requires-3 : tie.Need-covers-requires-3
 covers-requires-3 c κs = search needs
 
--- src/lib.rt:39:31
 add-covers-3 : tie.Need-add-covers-3
 add-covers-3 c = search needs
 
--- src/lib.rt:39:25
 mul-covers-4 : tie.Need-mul-covers-4
 mul-covers-4 c = search needs
 
--- src/lib.rt:39:25
 shared-slice-read-covers-4 : tie.Need-shared-slice-read-covers-4
 shared-slice-read-covers-4 c = search needs
 
--- src/lib.rt:39:53
 add-t18-2 : tie.Need-add-t18-2
 add-t18-2 c = search needs
 
--- src/lib.rt:39:46
 mul-t19-2 : tie.Need-mul-t19-2
 mul-t19-2 c = search needs
 
--- src/lib.rt:39:46
 shared-slice-read-t15-4 : tie.Need-shared-slice-read-t15-4
 shared-slice-read-t15-4 c = search needs
 
--- src/lib.rt:39:9
 covers-requires-4 : tie.Need-covers-requires-4
 covers-requires-4 c κs = search needs
 
--- src/lib.rt:40:12
 either-requires : tie.Need-either-requires
 either-requires c κs = search needs
 
--- src/lib.rt:40:35
 either-requires-2 : tie.Need-either-requires-2
 either-requires-2 c κs = search needs
 
--- src/lib.rt:40:5
 either-requires-3 : tie.Need-either-requires-3
 either-requires-3 c κs = search needs
 
--- src/lib.rt:32:1
 returns : tie.Need-returns
 returns c = search (four-cover, needs)
 

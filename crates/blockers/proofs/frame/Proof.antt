@@ -7,23 +7,18 @@ use Rattle.blockers.proofs.frame.Lts as lts
 use Rattle.blockers.proofs.clear.Reads as clear-reads
 use Rattle.blockers.proofs.close_up.Reads as close-up-reads
 
--- src/lib.rt:151:9
 close-up-requires : tie.Need-close-up-requires
 close-up-requires c κs = search needs
 
--- src/lib.rt:152:5
 clear-requires : tie.Need-clear-requires
 clear-requires c κs = search needs
 
--- src/lib.rt:146:1
 same-length : tie.Need-same-length
 same-length c = search needs
 
--- src/lib.rt:146:1
 same-length-2 : tie.Need-same-length-2
 same-length-2 c = search needs
 
--- src/lib.rt:146:1
 returns : tie.Need-returns
 returns c = search (framed, c .before .before .before .before .before .before .before .before .before .before .before .before .before .before .before .slice-known .given, needs)
 

@@ -6,15 +6,12 @@ use Rattle.blockers.proofs.leaves.Reads as reads
 use Rattle.blockers.proofs.leaves.Lts as lts
 use Rattle.masks.proofs.subset.Reads as subset-reads
 
--- src/lib.rt:57:9
 returns : tie.Need-returns
 returns c = search (leaves-high, needs)
 
--- src/lib.rt:59:5
 subset-requires : tie.Need-subset-requires
 subset-requires c κs = search needs
 
--- src/lib.rt:53:1
 returns-2 : tie.Need-returns-2
 returns-2 c = search (leaves-low, needs)
 

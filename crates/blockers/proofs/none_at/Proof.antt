@@ -12,35 +12,27 @@ Inv-loop masks levels held level i₀ i = LevelSearched masks levels held (level
 abbrev μ-loop : tie.MeasureT-loop
 μ-loop masks levels held level i₀ i = held - i
 
--- src/lib.rt:43:5
 loop-holds : tie.Need-loop-holds Inv-loop μ-loop
 loop-holds c = search (level-starts, needs)
 
--- src/lib.rt:44:12
 mul-if1 : tie.Need-mul-if1 Inv-loop μ-loop
 mul-if1 c = search needs
 
--- src/lib.rt:44:12
 shared-slice-read-if1 : tie.Need-shared-slice-read-if1 Inv-loop μ-loop
 shared-slice-read-if1 c = search needs
 
--- src/lib.rt:45:13
 returns : tie.Need-returns Inv-loop μ-loop
 returns c = search (level-here, needs)
 
--- src/lib.rt:47:9
 add-i : tie.Need-add-i Inv-loop μ-loop
 add-i c = search needs
 
--- src/lib.rt:43:5
 loop-less : tie.Need-loop-less Inv-loop μ-loop
 loop-less c = search needs
 
--- src/lib.rt:43:5
 loop-again : tie.Need-loop-again Inv-loop μ-loop
 loop-again c = search (level-goes, needs)
 
--- src/lib.rt:38:1
 returns-2 : tie.Need-returns-2 Inv-loop μ-loop
 returns-2 c = search (level-nowhere, needs)
 

@@ -7,19 +7,15 @@ use Rattle.choices.proofs.blocked.Lts as lts
 use Rattle.blockers.proofs.covered.Reads as covered-reads
 use Rattle.masks.proofs.subset.Reads as subset-reads
 
--- src/lib.rt:34:17
 subset-requires : tie.Need-subset-requires
 subset-requires c κs = search needs
 
--- src/lib.rt:34:9
 returns : tie.Need-returns
 returns c = search (blocked-bottom, needs)
 
--- src/lib.rt:36:5
 covered-requires : tie.Need-covered-requires
 covered-requires c κs = search needs
 
--- src/lib.rt:29:1
 returns-2 : tie.Need-returns-2
 returns-2 c = search (blocked-above, needs)
 

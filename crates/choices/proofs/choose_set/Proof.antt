@@ -7,35 +7,27 @@ use Rattle.choices.proofs.choose_set.Lts as lts
 use Rattle.choices.proofs.grow.Reads as grow-reads
 use Rattle.choices.proofs.passes.Reads as passes-reads
 
--- src/lib.rt:202:13
 grow-requires : tie.Need-grow-requires
 grow-requires c κs = search needs
 
--- src/lib.rt:203:9
 returns : tie.Need-returns
 returns c = search (chosen-without, needs)
 
--- src/lib.rt:205:16
 mul-hint : tie.Need-mul-hint
 mul-hint c = search needs
 
--- src/lib.rt:205:16
 shared-slice-read-hint : tie.Need-shared-slice-read-hint
 shared-slice-read-hint c = search needs
 
--- src/lib.rt:206:8
 passes-requires : tie.Need-passes-requires
 passes-requires c κs = search needs
 
--- src/lib.rt:207:9
 returns-2 : tie.Need-returns-2
 returns-2 c = search (chosen-hint, needs)
 
--- src/lib.rt:212:9
 grow-requires-2 : tie.Need-grow-requires-2
 grow-requires-2 c κs = search needs
 
--- src/lib.rt:186:1
 returns-3 : tie.Need-returns-3
 returns-3 c = search (chosen-grown, needs)
 

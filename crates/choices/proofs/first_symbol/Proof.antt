@@ -22,103 +22,78 @@ Inv-symbols image head masks levels held below x s₀ s-end s = SymbolsTried ima
 abbrev μ-symbols : tie.MeasureT-symbols
 μ-symbols image head masks levels held below x s₀ s-end s = s-end - s
 
--- src/lib.rt:44:5
 symbols-holds : tie.Need-symbols-holds Inv-loop μ-loop Inv-symbols μ-symbols
 symbols-holds c = search (tried-none, needs)
 
--- src/lib.rt:45:13
 backward-requires : tie.Need-backward-requires Inv-loop μ-loop Inv-symbols μ-symbols
 backward-requires c κs = search (symbol-known, needs)
 
--- src/lib.rt:46:12
 subset-requires : tie.Need-subset-requires Inv-loop μ-loop Inv-symbols μ-symbols
 subset-requires c κs = search needs
 
--- src/lib.rt:47:13
 add-s : tie.Need-add-s Inv-loop μ-loop Inv-symbols μ-symbols
 add-s c = search needs
 
--- src/lib.rt:44:5
 symbols-less : tie.Need-symbols-less Inv-loop μ-loop Inv-symbols μ-symbols
 symbols-less c = search needs
 
--- src/lib.rt:44:5
 symbols-again : tie.Need-symbols-again Inv-loop μ-loop Inv-symbols μ-symbols
 symbols-again c = search (try-inside, needs)
 
--- src/lib.rt:50:16
 subset-requires-2 : tie.Need-subset-requires-2 Inv-loop μ-loop Inv-symbols μ-symbols
 subset-requires-2 c κs = search needs
 
--- src/lib.rt:51:17
 returns : tie.Need-returns Inv-loop μ-loop Inv-symbols μ-symbols
 returns c = search (find-bottom, needs)
 
--- src/lib.rt:53:13
 add-s-2 : tie.Need-add-s-2 Inv-loop μ-loop Inv-symbols μ-symbols
 add-s-2 c = search needs
 
--- src/lib.rt:44:5
 symbols-less-2 : tie.Need-symbols-less-2 Inv-loop μ-loop Inv-symbols μ-symbols
 symbols-less-2 c = search needs
 
--- src/lib.rt:44:5
 symbols-again-2 : tie.Need-symbols-again-2 Inv-loop μ-loop Inv-symbols μ-symbols
 symbols-again-2 c = search (try-short, needs)
 
--- src/lib.rt:56:9
 loop-holds : tie.Need-loop-holds Inv-loop μ-loop Inv-symbols μ-symbols
 loop-holds c = search (walk-starts, needs)
 
--- src/lib.rt:57:33
 mul-covers : tie.Need-mul-covers Inv-loop μ-loop Inv-symbols μ-symbols
 mul-covers c = search needs
 
--- src/lib.rt:57:33
 shared-slice-read-covers : tie.Need-shared-slice-read-covers Inv-loop μ-loop Inv-symbols μ-symbols
 shared-slice-read-covers c = search needs
 
--- src/lib.rt:57:49
 mul-t22 : tie.Need-mul-t22 Inv-loop μ-loop Inv-symbols μ-symbols
 mul-t22 c = search needs
 
--- src/lib.rt:57:49
 shared-slice-read-t24 : tie.Need-shared-slice-read-t24 Inv-loop μ-loop Inv-symbols μ-symbols
 shared-slice-read-t24 c = search needs
 
--- src/lib.rt:57:16
 covers-requires : tie.Need-covers-requires Inv-loop μ-loop Inv-symbols μ-symbols
 covers-requires c κs = search needs
 
--- src/lib.rt:58:17
 add-s-3 : tie.Need-add-s-3 Inv-loop μ-loop Inv-symbols μ-symbols
 add-s-3 c = search needs
 
--- src/lib.rt:44:5
 symbols-less-3 : tie.Need-symbols-less-3 Inv-loop μ-loop Inv-symbols μ-symbols
 symbols-less-3 c = search needs
 
--- src/lib.rt:44:5
 symbols-again-3 : tie.Need-symbols-again-3 Inv-loop μ-loop Inv-symbols μ-symbols
 symbols-again-3 c = search (try-covered, needs)
 
--- src/lib.rt:60:13
 add-i : tie.Need-add-i Inv-loop μ-loop Inv-symbols μ-symbols
 add-i c = search needs
 
--- src/lib.rt:56:9
 loop-less : tie.Need-loop-less Inv-loop μ-loop Inv-symbols μ-symbols
 loop-less c = search needs
 
--- src/lib.rt:56:9
 loop-again : tie.Need-loop-again Inv-loop μ-loop Inv-symbols μ-symbols
 loop-again c = search (walk-goes, needs)
 
--- src/lib.rt:62:9
 returns-2 : tie.Need-returns-2 Inv-loop μ-loop Inv-symbols μ-symbols
 returns-2 c = search (find-open, needs)
 
--- src/lib.rt:40:1
 returns-3 : tie.Need-returns-3 Inv-loop μ-loop Inv-symbols μ-symbols
 returns-3 c = search (tried-all, needs)
 

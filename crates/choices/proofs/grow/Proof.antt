@@ -13,27 +13,21 @@ Inv-loop image head masks levels held below x y₀ q₀ y q = StatesTried image 
 abbrev μ-loop : tie.MeasureT-loop
 μ-loop image head masks levels held below x y₀ q₀ y q = head .states - q
 
--- src/lib.rt:125:5
 loop-holds : tie.Need-loop-holds Inv-loop μ-loop
 loop-holds c = search (states-start, needs)
 
--- src/lib.rt:126:9
 with-state-requires : tie.Need-with-state-requires Inv-loop μ-loop
 with-state-requires c κs = search (state-fits, needs)
 
--- src/lib.rt:127:9
 add-q : tie.Need-add-q Inv-loop μ-loop
 add-q c = search needs
 
--- src/lib.rt:125:5
 loop-less : tie.Need-loop-less Inv-loop μ-loop
 loop-less c = search needs
 
--- src/lib.rt:125:5
 loop-again : tie.Need-loop-again Inv-loop μ-loop
 loop-again c = search (states-go, needs)
 
--- src/lib.rt:119:1
 returns : tie.Need-returns Inv-loop μ-loop
 returns c = search (states-end, needs)
 

@@ -20,59 +20,45 @@ Inv-loop image head masks levels held below x y s₀ s = EachTried image (settle
 abbrev μ-loop : tie.MeasureT-loop
 μ-loop image head masks levels held below x y s₀ s = head .symbols - s
 
--- src/lib.rt:83:9
 subset-requires : tie.Need-subset-requires Inv-loop μ-loop
 subset-requires c κs = search needs
 
--- src/lib.rt:84:9
 returns : tie.Need-returns Inv-loop μ-loop
 returns c = search (pass-lacks, needs)
 
--- src/lib.rt:86:8
 subset-requires-2 : tie.Need-subset-requires-2 Inv-loop μ-loop
 subset-requires-2 c κs = search needs
 
--- src/lib.rt:87:9
 returns-2 : tie.Need-returns-2 Inv-loop μ-loop
 returns-2 c = search (pass-initial, needs)
 
--- src/lib.rt:89:9
 within-requires : tie.Need-within-requires Inv-loop μ-loop
 within-requires c κs = search needs
 
--- src/lib.rt:90:9
 returns-3 : tie.Need-returns-3 Inv-loop μ-loop
 returns-3 c = search (pass-beyond, needs)
 
--- src/lib.rt:93:5
 loop-holds : tie.Need-loop-holds Inv-loop μ-loop
 loop-holds c = search (each-starts, needs)
 
--- src/lib.rt:94:13
 backward-requires : tie.Need-backward-requires Inv-loop μ-loop
 backward-requires c κs = search (each-known, needs)
 
--- src/lib.rt:95:13
 settled-requires : tie.Need-settled-requires Inv-loop μ-loop
 settled-requires c κs = search needs
 
--- src/lib.rt:96:13
 returns-4 : tie.Need-returns-4 Inv-loop μ-loop
 returns-4 c = search (pass-unsettled, needs)
 
--- src/lib.rt:98:9
 add-s : tie.Need-add-s Inv-loop μ-loop
 add-s c = search needs
 
--- src/lib.rt:93:5
 loop-less : tie.Need-loop-less Inv-loop μ-loop
 loop-less c = search needs
 
--- src/lib.rt:93:5
 loop-again : tie.Need-loop-again Inv-loop μ-loop
 loop-again c = search (each-goes, needs)
 
--- src/lib.rt:79:1
 returns-5 : tie.Need-returns-5 Inv-loop μ-loop
 returns-5 c = search (pass-settled, needs)
 

@@ -18,55 +18,42 @@ Inv-loop image head masks levels held level place mask s₀ s = EachTried image 
 abbrev μ-loop : tie.MeasureT-loop
 μ-loop image head masks levels held level place mask s₀ s = head .symbols - s
 
--- src/lib.rt:154:8
 mul-if1 : tie.Need-mul-if1 Inv-loop μ-loop
 mul-if1 c = search needs
 
--- src/lib.rt:154:8
 shared-slice-read-if1 : tie.Need-shared-slice-read-if1 Inv-loop μ-loop
 shared-slice-read-if1 c = search needs
 
--- src/lib.rt:155:9
 returns : tie.Need-returns Inv-loop μ-loop
 returns c = search (rise-other, needs)
 
--- src/lib.rt:157:16
 mul-mask : tie.Need-mul-mask Inv-loop μ-loop
 mul-mask c = search needs
 
--- src/lib.rt:157:16
 shared-slice-read-mask : tie.Need-shared-slice-read-mask Inv-loop μ-loop
 shared-slice-read-mask c = search needs
 
--- src/lib.rt:159:5
 loop-holds : tie.Need-loop-holds Inv-loop μ-loop
 loop-holds c = search (each-starts, needs)
 
--- src/lib.rt:160:13
 backward-requires : tie.Need-backward-requires Inv-loop μ-loop
 backward-requires c κs = search (each-known, needs)
 
--- src/lib.rt:161:13
 blocked-requires : tie.Need-blocked-requires Inv-loop μ-loop
 blocked-requires c κs = search needs
 
--- src/lib.rt:162:13
 returns-2 : tie.Need-returns-2 Inv-loop μ-loop
 returns-2 c = search (rise-unblocked, needs)
 
--- src/lib.rt:164:9
 add-s : tie.Need-add-s Inv-loop μ-loop
 add-s c = search needs
 
--- src/lib.rt:159:5
 loop-less : tie.Need-loop-less Inv-loop μ-loop
 loop-less c = search needs
 
--- src/lib.rt:159:5
 loop-again : tie.Need-loop-again Inv-loop μ-loop
 loop-again c = search (each-goes, needs)
 
--- src/lib.rt:150:1
 returns-3 : tie.Need-returns-3 Inv-loop μ-loop
 returns-3 c = search (rise-blocked, needs)
 

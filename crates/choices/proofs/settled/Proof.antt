@@ -7,19 +7,15 @@ use Rattle.choices.proofs.settled.Lts as lts
 use Rattle.choices.proofs.blocked.Reads as blocked-reads
 use Rattle.masks.proofs.subset.Reads as subset-reads
 
--- src/lib.rt:72:8
 subset-requires : tie.Need-subset-requires
 subset-requires c κs = search needs
 
--- src/lib.rt:73:9
 returns : tie.Need-returns
 returns c = search (settled-inside, needs)
 
--- src/lib.rt:75:5
 blocked-requires : tie.Need-blocked-requires
 blocked-requires c κs = search needs
 
--- src/lib.rt:68:1
 returns-2 : tie.Need-returns-2
 returns-2 c = search (settled-blocked, needs)
 

@@ -8,27 +8,21 @@ use Rattle.choices.proofs.passes.Reads as passes-reads
 use Rattle.masks.proofs.insert.Reads as insert-reads
 use Rattle.masks.proofs.member.Reads as member-reads
 
--- src/lib.rt:108:8
 member-requires : tie.Need-member-requires
 member-requires c κs = search needs
 
--- src/lib.rt:109:9
 returns : tie.Need-returns
 returns c = search (state-there, needs)
 
--- src/lib.rt:111:9
 insert-requires : tie.Need-insert-requires
 insert-requires c κs = search needs
 
--- src/lib.rt:112:8
 passes-requires : tie.Need-passes-requires
 passes-requires c κs = search needs
 
--- src/lib.rt:113:9
 returns-2 : tie.Need-returns-2
 returns-2 c = search (state-kept, needs)
 
--- src/lib.rt:104:1
 returns-3 : tie.Need-returns-3
 returns-3 c = search (state-left, needs)
 

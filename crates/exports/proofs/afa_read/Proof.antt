@@ -6,39 +6,30 @@ use Rattle.exports.proofs.afa_read.Reads as reads
 use Rattle.exports.proofs.afa_read.Lts as lts
 use Rattle.automata.proofs.image.read_image.Reads as read-image-reads
 
--- src/lib.rt:14:11
 read-image-requires : tie.Need-read-image-requires
 read-image-requires c κs = search needs
 
--- src/lib.rt:15:24
 enum-known-number : tie.Need-enum-known-number
 enum-known-number c = search needs
 
--- src/lib.rt:15:35
 cast-result : tie.Need-cast-result
 cast-result c = search needs
 
--- src/lib.rt:16:22
 enum-known-found : tie.Need-enum-known-found
 enum-known-found c = search needs
 
--- src/lib.rt:18:17
 cast-t7 : tie.Need-cast-t7
 cast-t7 c = search needs
 
--- src/lib.rt:19:17
 cast-t8 : tie.Need-cast-t8
 cast-t8 c = search needs
 
--- src/lib.rt:20:17
 cast-t9 : tie.Need-cast-t9
 cast-t9 c = search needs
 
--- src/lib.rt:9:1
 returns : tie.Need-returns
 returns c = (search (number-refused, needs), search (head-refused, needs))
 
--- src/lib.rt:9:1
 returns-2 : tie.Need-returns-2
 returns-2 c = (search (number-valid, needs), search (head-valid, needs))
 

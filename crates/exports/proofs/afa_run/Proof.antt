@@ -6,27 +6,21 @@ use Rattle.exports.proofs.afa_run.Reads as reads
 use Rattle.exports.proofs.afa_run.Lts as lts
 use Rattle.checker.proofs.run.run.Reads as run-reads
 
--- src/lib.rt:54:9
 run-requires : tie.Need-run-requires
 run-requires c κs = search needs
 
--- src/lib.rt:40:1
 same-length : tie.Need-same-length
 same-length c = search needs
 
--- src/lib.rt:40:1
 same-length-2 : tie.Need-same-length-2
 same-length-2 c = search needs
 
--- src/lib.rt:40:1
 same-length-3 : tie.Need-same-length-3
 same-length-3 c = search needs
 
--- src/lib.rt:40:1
 same-length-4 : tie.Need-same-length-4
 same-length-4 c = search needs
 
--- src/lib.rt:40:1
 returns : tie.Need-returns
 returns c = ran-is _ _ _ _ _ _ (c .before .before .before .before .before .before .before .before .before .run .ensures)
 

@@ -5,19 +5,15 @@ use Rattle.masks.proofs.insert_if.Tie as tie
 use Rattle.masks.proofs.insert_if.Reads as reads
 use Rattle.masks.proofs.insert_if.Lts as lts
 
--- src/lib.rt:39:12
 cast-result : tie.Need-cast-result
 cast-result c = search needs
 
--- src/lib.rt:39:28
 cast-result-2 : tie.Need-cast-result-2
 cast-result-2 c = search needs
 
--- src/lib.rt:39:11
 shl-result : tie.Need-shl-result
 shl-result c = search needs
 
--- src/lib.rt:35:1
 returns : tie.Need-returns
 returns c = shifted-test 64 (c .before .args .test) (c .before .args .q .0) (c .before .args .set) (c .before .pre)
 

@@ -5,7 +5,6 @@ use Rattle.masks.proofs.subset.Tie as tie
 use Rattle.masks.proofs.subset.Reads as reads
 use Rattle.masks.proofs.subset.Lts as lts
 
--- src/lib.rt:11:1
 returns : tie.Need-returns
 unfolding subset
 returns c = search needs

@@ -6,11 +6,9 @@ use Rattle.masks.proofs.within.Reads as reads
 use Rattle.masks.proofs.within.Lts as lts
 use Rattle.masks.proofs.full.Reads as full-reads
 
--- src/lib.rt:50:12
 full-requires : tie.Need-full-requires
 full-requires c κs = search needs
 
--- src/lib.rt:47:1
 returns : tie.Need-returns
 returns c = search (within-test, needs)
 

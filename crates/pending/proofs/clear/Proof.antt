@@ -7,23 +7,18 @@ use Rattle.pending.proofs.clear.Lts as lts
 use Rattle.pending.proofs.clear_cases.Reads as clear-cases-reads
 use Rattle.pending.proofs.clear_symbols.Reads as clear-symbols-reads
 
--- src/lib.rt:58:5
 clear-cases-requires : tie.Need-clear-cases-requires
 clear-cases-requires c κs = search needs
 
--- src/lib.rt:59:5
 clear-symbols-requires : tie.Need-clear-symbols-requires
 clear-symbols-requires c κs = search needs
 
--- src/lib.rt:54:1
 same-length : tie.Need-same-length
 same-length c = search needs
 
--- src/lib.rt:54:1
 same-length-2 : tie.Need-same-length-2
 same-length-2 c = search needs
 
--- src/lib.rt:54:1
 returns : tie.Need-returns
 returns c = search (emptied, needs)
 

@@ -12,35 +12,27 @@ Inv-loop cases₀ count at₀ cases at = Clearing count cases₀ cases at
 abbrev μ-loop : tie.MeasureT-loop
 μ-loop cases₀ count at₀ cases at = count - at
 
--- src/lib.rt:35:5
 loop-holds : tie.Need-loop-holds Inv-loop μ-loop
 loop-holds c = search (clearing-starts, needs)
 
--- src/lib.rt:36:9
 mul-cases : tie.Need-mul-cases Inv-loop μ-loop
 mul-cases c = search needs
 
--- src/lib.rt:36:9
 slice-write-cases : tie.Need-slice-write-cases Inv-loop μ-loop
 slice-write-cases c = search needs
 
--- src/lib.rt:37:9
 add-at : tie.Need-add-at Inv-loop μ-loop
 add-at c = search needs
 
--- src/lib.rt:35:5
 loop-less : tie.Need-loop-less Inv-loop μ-loop
 loop-less c = search needs
 
--- src/lib.rt:35:5
 loop-again : tie.Need-loop-again Inv-loop μ-loop
 loop-again c = search (clearing-next, needs)
 
--- src/lib.rt:30:1
 same-length : tie.Need-same-length Inv-loop μ-loop
 same-length c = search needs
 
--- src/lib.rt:30:1
 returns : tie.Need-returns Inv-loop μ-loop
 returns c = search (clearing-ends, needs)
 

@@ -12,31 +12,24 @@ Inv-loop symbols₀ count at₀ symbols at = Clearing count symbols₀ symbols a
 abbrev μ-loop : tie.MeasureT-loop
 μ-loop symbols₀ count at₀ symbols at = count - at
 
--- src/lib.rt:47:5
 loop-holds : tie.Need-loop-holds Inv-loop μ-loop
 loop-holds c = search (clearing-starts, needs)
 
--- src/lib.rt:48:9
 slice-write-symbols : tie.Need-slice-write-symbols Inv-loop μ-loop
 slice-write-symbols c = search needs
 
--- src/lib.rt:49:9
 add-at : tie.Need-add-at Inv-loop μ-loop
 add-at c = search needs
 
--- src/lib.rt:47:5
 loop-less : tie.Need-loop-less Inv-loop μ-loop
 loop-less c = search needs
 
--- src/lib.rt:47:5
 loop-again : tie.Need-loop-again Inv-loop μ-loop
 loop-again c = search (clearing-next, needs)
 
--- src/lib.rt:42:1
 same-length : tie.Need-same-length Inv-loop μ-loop
 same-length c = search needs
 
--- src/lib.rt:42:1
 returns : tie.Need-returns Inv-loop μ-loop
 returns c = search (clearing-ends, needs)
 

@@ -5,35 +5,27 @@ use Rattle.pending.proofs.pop.Tie as tie
 use Rattle.pending.proofs.pop.Reads as reads
 use Rattle.pending.proofs.pop.Lts as lts
 
--- src/lib.rt:25:11
 sub-cases : tie.Need-sub-cases
 sub-cases c = search needs
 
--- src/lib.rt:25:5
 mul-cases : tie.Need-mul-cases
 mul-cases c = search needs
 
--- src/lib.rt:25:5
 slice-write-cases : tie.Need-slice-write-cases
 slice-write-cases c = search needs
 
--- src/lib.rt:26:13
 sub-symbols : tie.Need-sub-symbols
 sub-symbols c = search needs
 
--- src/lib.rt:26:5
 slice-write-symbols : tie.Need-slice-write-symbols
 slice-write-symbols c = search needs
 
--- src/lib.rt:21:1
 same-length : tie.Need-same-length
 same-length c = search needs
 
--- src/lib.rt:21:1
 same-length-2 : tie.Need-same-length-2
 same-length-2 c = search needs
 
--- src/lib.rt:21:1
 returns : tie.Need-returns
 returns c = search (popped, needs)
 

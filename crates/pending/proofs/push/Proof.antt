@@ -5,27 +5,21 @@ use Rattle.pending.proofs.push.Tie as tie
 use Rattle.pending.proofs.push.Reads as reads
 use Rattle.pending.proofs.push.Lts as lts
 
--- src/lib.rt:16:5
 mul-cases : tie.Need-mul-cases
 mul-cases c = search needs
 
--- src/lib.rt:16:5
 slice-write-cases : tie.Need-slice-write-cases
 slice-write-cases c = search needs
 
--- src/lib.rt:17:5
 slice-write-symbols : tie.Need-slice-write-symbols
 slice-write-symbols c = search needs
 
--- src/lib.rt:12:1
 same-length : tie.Need-same-length
 same-length c = search needs
 
--- src/lib.rt:12:1
 same-length-2 : tie.Need-same-length-2
 same-length-2 c = search needs
 
--- src/lib.rt:12:1
 returns : tie.Need-returns
 returns c = search (pushed, needs)
 

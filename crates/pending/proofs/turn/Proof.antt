@@ -12,51 +12,39 @@ Inv-loop symbols₀ from to low₀ high₀ symbols low high = Turning from to sy
 abbrev μ-loop : tie.MeasureT-loop
 μ-loop symbols₀ from to low₀ high₀ symbols low high = high - low
 
--- src/lib.rt:69:5
 loop-holds : tie.Need-loop-holds Inv-loop μ-loop
 loop-holds c = search (turning-starts, needs)
 
--- src/lib.rt:69:11
 add-loop : tie.Need-add-loop Inv-loop μ-loop
 add-loop c = search needs
 
--- src/lib.rt:70:9
 sub-high : tie.Need-sub-high Inv-loop μ-loop
 sub-high c = search needs
 
--- src/lib.rt:71:21
 slice-read-first : tie.Need-slice-read-first Inv-loop μ-loop
 slice-read-first c = search needs
 
--- src/lib.rt:72:24
 slice-read-symbols : tie.Need-slice-read-symbols Inv-loop μ-loop
 slice-read-symbols c = search needs
 
--- src/lib.rt:72:9
 slice-write-symbols : tie.Need-slice-write-symbols Inv-loop μ-loop
 slice-write-symbols c = search needs
 
--- src/lib.rt:73:9
 slice-write-symbols-2 : tie.Need-slice-write-symbols-2 Inv-loop μ-loop
 slice-write-symbols-2 c = search (turning-high, needs)
 
--- src/lib.rt:74:9
 add-low : tie.Need-add-low Inv-loop μ-loop
 add-low c = search needs
 
--- src/lib.rt:69:5
 loop-less : tie.Need-loop-less Inv-loop μ-loop
 loop-less c = search needs
 
--- src/lib.rt:69:5
 loop-again : tie.Need-loop-again Inv-loop μ-loop
 loop-again c = search (turning-next, needs)
 
--- src/lib.rt:63:1
 same-length : tie.Need-same-length Inv-loop μ-loop
 same-length c = search needs
 
--- src/lib.rt:63:1
 returns : tie.Need-returns Inv-loop μ-loop
 returns c = search (turning-ends, needs)
 

@@ -7,27 +7,21 @@ use Rattle.pending.proofs.write_word.Lts as lts
 use Rattle.pending.proofs.clear_cases.Reads as clear-cases-reads
 use Rattle.pending.proofs.turn.Reads as turn-reads
 
--- src/lib.rt:84:5
 clear-cases-requires : tie.Need-clear-cases-requires
 clear-cases-requires c κs = search needs
 
--- src/lib.rt:85:5
 slice-write-symbols : tie.Need-slice-write-symbols
 slice-write-symbols c = search needs
 
--- src/lib.rt:86:5
 turn-requires : tie.Need-turn-requires
 turn-requires c κs = search needs
 
--- src/lib.rt:80:1
 same-length : tie.Need-same-length
 same-length c = search needs
 
--- src/lib.rt:80:1
 same-length-2 : tie.Need-same-length-2
 same-length-2 c = search (kept-after-store, needs)
 
--- src/lib.rt:80:1
 returns : tie.Need-returns
 returns c = search (word-written, needs)
 

@@ -7,43 +7,33 @@ use Rattle.automata.proofs.backward.backward.Lts as lts
 use Rattle.automata.proofs.backward.with_rows.Reads as with-rows-reads
 use Rattle.automata.proofs.bytes.read4.Reads as read4-reads
 
--- src/backward.rt:44:13
 cast-s : tie.Need-cast-s
 cast-s c = search needs
 
--- src/backward.rt:45:35
 mul-read4 : tie.Need-mul-read4
 mul-read4 c = search needs
 
--- src/backward.rt:45:30
 add-read4 : tie.Need-add-read4
 add-read4 c = search needs
 
--- src/backward.rt:45:9
 read4-requires : tie.Need-read4-requires
 read4-requires c κs = search (offset-readable, needs)
 
--- src/backward.rt:46:34
 mul-read4-2 : tie.Need-mul-read4-2
 mul-read4-2 c = search needs
 
--- src/backward.rt:46:29
 add-read4-2 : tie.Need-add-read4-2
 add-read4-2 c = search needs
 
--- src/backward.rt:46:9
 read4-requires-2 : tie.Need-read4-requires-2
 read4-requires-2 c κs = search (size-readable, needs)
 
--- src/backward.rt:47:29
 add-with-rows : tie.Need-add-with-rows
 add-with-rows c = search needs
 
--- src/backward.rt:47:5
 with-rows-requires : tie.Need-with-rows-requires
 with-rows-requires c κs = search (span-whole, needs)
 
--- src/backward.rt:40:1
 returns : tie.Need-returns
 returns c = search (span-backward, needs)
 

@@ -8,27 +8,21 @@ use Rattle.automata.proofs.bytes.read8.Reads as read8-reads
 use Rattle.masks.proofs.insert_if.Reads as insert-if-reads
 use Rattle.masks.proofs.subset.Reads as subset-reads
 
--- src/backward.rt:20:36
 add-read8 : tie.Need-add-read8
 add-read8 c = search needs
 
--- src/backward.rt:20:23
 read8-requires : tie.Need-read8-requires
 read8-requires c κs = search needs
 
--- src/backward.rt:20:9
 subset-requires : tie.Need-subset-requires
 subset-requires c κs = search needs
 
--- src/backward.rt:21:15
 shared-slice-read-t9 : tie.Need-shared-slice-read-t9
 shared-slice-read-t9 c = search needs
 
--- src/backward.rt:19:5
 insert-if-requires : tie.Need-insert-if-requires
 insert-if-requires c κs = search needs
 
--- src/backward.rt:15:1
 returns : tie.Need-returns
 returns c = search (row-tested, needs)
 

@@ -13,27 +13,21 @@ Inv-loop image start end x set₀ at₀ set at = RowsAhead image start end x set
 abbrev μ-loop : tie.MeasureT-loop
 μ-loop image start end x set₀ at₀ set at = end - at
 
--- src/backward.rt:34:5
 loop-holds : tie.Need-loop-holds Inv-loop μ-loop
 loop-holds c = search (walk-starts, needs)
 
--- src/backward.rt:35:9
 with-row-requires : tie.Need-with-row-requires Inv-loop μ-loop
 with-row-requires c κs = search (one-more, walk-state, needs)
 
--- src/backward.rt:36:9
 add-at : tie.Need-add-at Inv-loop μ-loop
 add-at c = search needs
 
--- src/backward.rt:34:5
 loop-less : tie.Need-loop-less Inv-loop μ-loop
 loop-less c = search needs
 
--- src/backward.rt:34:5
 loop-again : tie.Need-loop-again Inv-loop μ-loop
 loop-again c = search (walk-next, needs)
 
--- src/backward.rt:27:1
 returns : tie.Need-returns Inv-loop μ-loop
 returns c = search (walk-ends, needs)
 

@@ -6,35 +6,27 @@ use Rattle.automata.proofs.bytes.read2.Reads as reads
 use Rattle.automata.proofs.bytes.read2.Lts as lts
 use Rattle.automata.proofs.bytes.wide.Reads as wide-reads
 
--- src/bytes.rt:17:10
 shared-slice-read-wide : tie.Need-shared-slice-read-wide
 shared-slice-read-wide c = search needs
 
--- src/bytes.rt:17:5
 wide-requires : tie.Need-wide-requires
 wide-requires c κs = search needs
 
--- src/bytes.rt:17:40
 add-wide : tie.Need-add-wide
 add-wide c = search needs
 
--- src/bytes.rt:17:34
 shared-slice-read-wide-2 : tie.Need-shared-slice-read-wide-2
 shared-slice-read-wide-2 c = search needs
 
--- src/bytes.rt:17:29
 wide-requires-2 : tie.Need-wide-requires-2
 wide-requires-2 c κs = search needs
 
--- src/bytes.rt:17:23
 mul-result : tie.Need-mul-result
 mul-result c = search needs
 
--- src/bytes.rt:17:5
 add-result : tie.Need-add-result
 add-result c = search needs
 
--- src/bytes.rt:13:1
 returns : tie.Need-returns
 unfolding little2
 returns c = search needs

@@ -6,27 +6,21 @@ use Rattle.automata.proofs.bytes.read4.Reads as reads
 use Rattle.automata.proofs.bytes.read4.Lts as lts
 use Rattle.automata.proofs.bytes.read2.Reads as read2-reads
 
--- src/bytes.rt:24:5
 read2-requires : tie.Need-read2-requires
 read2-requires c κs = search needs
 
--- src/bytes.rt:24:45
 add-read2 : tie.Need-add-read2
 add-read2 c = search needs
 
--- src/bytes.rt:24:32
 read2-requires-2 : tie.Need-read2-requires-2
 read2-requires-2 c κs = search needs
 
--- src/bytes.rt:24:24
 mul-result : tie.Need-mul-result
 mul-result c = search needs
 
--- src/bytes.rt:24:5
 add-result : tie.Need-add-result
 add-result c = search needs
 
--- src/bytes.rt:20:1
 returns : tie.Need-returns
 unfolding little4
 returns c = search needs

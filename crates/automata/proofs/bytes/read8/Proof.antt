@@ -6,27 +6,21 @@ use Rattle.automata.proofs.bytes.read8.Reads as reads
 use Rattle.automata.proofs.bytes.read8.Lts as lts
 use Rattle.automata.proofs.bytes.read4.Reads as read4-reads
 
--- src/bytes.rt:31:15
 read4-requires : tie.Need-read4-requires
 read4-requires c κs = search needs
 
--- src/bytes.rt:32:29
 add-read4 : tie.Need-add-read4
 add-read4 c = search needs
 
--- src/bytes.rt:32:16
 read4-requires-2 : tie.Need-read4-requires-2
 read4-requires-2 c κs = search needs
 
--- src/bytes.rt:33:11
 mul-result : tie.Need-mul-result
 mul-result c = search needs
 
--- src/bytes.rt:33:5
 add-result : tie.Need-add-result
 add-result c = search needs
 
--- src/bytes.rt:27:1
 returns : tie.Need-returns
 unfolding little8
 returns c = search needs

@@ -12,111 +12,84 @@ use Rattle.automata.proofs.image.pairs_hold.Reads as pairs-hold-reads
 use Rattle.automata.proofs.image.rows_hold.Reads as rows-hold-reads
 use Rattle.masks.proofs.within.Reads as within-reads
 
--- src/image.rt:99:9
 returns : tie.Need-returns
 returns c = search (refuse20, needs)
 
--- src/image.rt:101:18
 shared-slice-read-states : tie.Need-shared-slice-read-states
 shared-slice-read-states c = search needs
 
--- src/image.rt:102:8
 outside-requires : tie.Need-outside-requires
 outside-requires c κs = search needs
 
--- src/image.rt:103:9
 returns-2 : tie.Need-returns-2
 returns-2 c = search (refuse21, needs)
 
--- src/image.rt:105:16
 shared-slice-read-outside : tie.Need-shared-slice-read-outside
 shared-slice-read-outside c = search needs
 
--- src/image.rt:105:8
 outside-requires-2 : tie.Need-outside-requires-2
 outside-requires-2 c κs = search needs
 
--- src/image.rt:106:9
 returns-3 : tie.Need-returns-3
 returns-3 c = search (refuse22, needs)
 
--- src/image.rt:108:9
 read2-requires : tie.Need-read2-requires
 read2-requires c κs = search needs
 
--- src/image.rt:110:9
 returns-4 : tie.Need-returns-4
 returns-4 c = search (refuse23, needs)
 
--- src/image.rt:112:24
 shared-slice-read-wide : tie.Need-shared-slice-read-wide
 shared-slice-read-wide c = search needs
 
--- src/image.rt:112:9
 wide-requires : tie.Need-wide-requires
 wide-requires c κs = search needs
 
--- src/image.rt:113:28
 mul-if5 : tie.Need-mul-if5
 mul-if5 c = search needs
 
--- src/image.rt:113:23
 add-if5 : tie.Need-add-if5
 add-if5 c = search needs
 
--- src/image.rt:113:42
 mul-if5-2 : tie.Need-mul-if5-2
 mul-if5-2 c = search needs
 
--- src/image.rt:113:23
 add-if5-2 : tie.Need-add-if5-2
 add-if5-2 c = search needs
 
--- src/image.rt:114:9
 returns-5 : tie.Need-returns-5
 returns-5 c = search (refuse24, needs)
 
--- src/image.rt:116:31
 read8-requires : tie.Need-read8-requires
 read8-requires c κs = search needs
 
--- src/image.rt:116:9
 within-requires : tie.Need-within-requires
 within-requires c κs = search needs
 
--- src/image.rt:117:9
 returns-6 : tie.Need-returns-6
 returns-6 c = search (refuse25, needs)
 
--- src/image.rt:119:31
 read8-requires-2 : tie.Need-read8-requires-2
 read8-requires-2 c κs = search needs
 
--- src/image.rt:119:9
 within-requires-2 : tie.Need-within-requires-2
 within-requires-2 c κs = search needs
 
--- src/image.rt:120:9
 returns-7 : tie.Need-returns-7
 returns-7 c = search (refuse25′, needs)
 
--- src/image.rt:122:9
 pairs-hold-requires : tie.Need-pairs-hold-requires
 pairs-hold-requires c κs = search needs
 
--- src/image.rt:123:9
 returns-8 : tie.Need-returns-8
 returns-8 c = search (refuse26, needs)
 
--- src/image.rt:125:9
 rows-hold-requires : tie.Need-rows-hold-requires
 rows-hold-requires c κs = search needs
 
--- src/image.rt:126:9
 returns-9 : tie.Need-returns-9
 returns-9 c = search (refuse27, needs)
 
--- src/image.rt:95:1
 returns-10 : tie.Need-returns-10
 returns-10 c = search (refuse-none, needs)
 

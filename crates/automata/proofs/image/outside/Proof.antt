@@ -5,11 +5,9 @@ use Rattle.automata.proofs.image.outside.Tie as tie
 use Rattle.automata.proofs.image.outside.Reads as reads
 use Rattle.automata.proofs.image.outside.Lts as lts
 
--- src/image.rt:37:9
 returns : tie.Need-returns
 returns c = search (outside-zero, needs)
 
--- src/image.rt:33:1
 returns-2 : tie.Need-returns-2
 returns-2 c = search (outside-above, needs)
 

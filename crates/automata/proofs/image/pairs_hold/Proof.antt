@@ -14,75 +14,57 @@ Inv-loop image symbols start₀ s₀ start s = PairsLeft image symbols start s
 abbrev μ-loop : tie.MeasureT-loop
 μ-loop image symbols start₀ s₀ start s = symbols - s
 
--- src/image.rt:47:24
 shared-slice-read-wide : tie.Need-shared-slice-read-wide Inv-loop μ-loop
 shared-slice-read-wide c = search needs
 
--- src/image.rt:47:9
 wide-requires : tie.Need-wide-requires Inv-loop μ-loop
 wide-requires c κs = search needs
 
--- src/image.rt:48:26
 mul-start : tie.Need-mul-start Inv-loop μ-loop
 mul-start c = search needs
 
--- src/image.rt:48:21
 add-start : tie.Need-add-start Inv-loop μ-loop
 add-start c = search needs
 
--- src/image.rt:50:5
 loop-holds : tie.Need-loop-holds Inv-loop μ-loop
 loop-holds c = search (pairs-none, needs)
 
--- src/image.rt:51:40
 mul-read4 : tie.Need-mul-read4 Inv-loop μ-loop
 mul-read4 c = search needs
 
--- src/image.rt:51:35
 add-read4 : tie.Need-add-read4 Inv-loop μ-loop
 add-read4 c = search needs
 
--- src/image.rt:51:13
 read4-requires : tie.Need-read4-requires Inv-loop μ-loop
 read4-requires c κs = search needs
 
--- src/image.rt:52:38
 mul-read4-2 : tie.Need-mul-read4-2 Inv-loop μ-loop
 mul-read4-2 c = search needs
 
--- src/image.rt:52:33
 add-read4-2 : tie.Need-add-read4-2 Inv-loop μ-loop
 add-read4-2 c = search needs
 
--- src/image.rt:52:13
 read4-requires-2 : tie.Need-read4-requires-2 Inv-loop μ-loop
 read4-requires-2 c κs = search needs
 
--- src/image.rt:54:13
 returns : tie.Need-returns Inv-loop μ-loop
 returns c = search (pair-offset, needs)
 
--- src/image.rt:57:13
 returns-2 : tie.Need-returns-2 Inv-loop μ-loop
 returns-2 c = search (pair-size, needs)
 
--- src/image.rt:59:17
 add-start-2 : tie.Need-add-start-2 Inv-loop μ-loop
 add-start-2 c = search needs
 
--- src/image.rt:60:9
 add-s : tie.Need-add-s Inv-loop μ-loop
 add-s c = search needs
 
--- src/image.rt:50:5
 loop-less : tie.Need-loop-less Inv-loop μ-loop
 loop-less c = search needs
 
--- src/image.rt:50:5
 loop-again : tie.Need-loop-again Inv-loop μ-loop
 loop-again c = search (pair-next, needs)
 
--- src/image.rt:43:1
 returns-3 : tie.Need-returns-3 Inv-loop μ-loop
 returns-3 c = search (pairs-end, needs)
 

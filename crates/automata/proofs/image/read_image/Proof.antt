@@ -8,39 +8,30 @@ use Rattle.automata.proofs.bytes.read2.Reads as read2-reads
 use Rattle.automata.proofs.bytes.read8.Reads as read8-reads
 use Rattle.automata.proofs.image.check_image.Reads as check-image-reads
 
--- src/image.rt:135:9
 check-image-requires : tie.Need-check-image-requires
 check-image-requires c κs = search needs
 
--- src/image.rt:137:9
 returns : tie.Need-returns
 returns c = search (read-refused, needs)
 
--- src/image.rt:139:18
 shared-slice-read-states : tie.Need-shared-slice-read-states
 shared-slice-read-states c = search (head-in, needs)
 
--- src/image.rt:140:19
 shared-slice-read-symbols : tie.Need-shared-slice-read-symbols
 shared-slice-read-symbols c = search (head-in, needs)
 
--- src/image.rt:141:16
 read2-requires : tie.Need-read2-requires
 read2-requires c κs = search (head-in, needs)
 
--- src/image.rt:141:16
 cast-rows : tie.Need-cast-rows
 cast-rows c = search needs
 
--- src/image.rt:142:9
 read8-requires : tie.Need-read8-requires
 read8-requires c κs = search (head-in, needs)
 
--- src/image.rt:143:9
 read8-requires-2 : tie.Need-read8-requires-2
 read8-requires-2 c κs = search (head-in, needs)
 
--- src/image.rt:132:1
 returns-2 : tie.Need-returns-2
 returns-2 c = search (read-valid, needs)
 

@@ -8,55 +8,42 @@ use Rattle.automata.proofs.bytes.read8.Reads as read8-reads
 use Rattle.automata.proofs.bytes.wide.Reads as wide-reads
 use Rattle.masks.proofs.within.Reads as within-reads
 
--- src/image.rt:70:18
 shared-slice-read-states : tie.Need-shared-slice-read-states
 shared-slice-read-states c = search needs
 
--- src/image.rt:71:28
 shared-slice-read-wide : tie.Need-shared-slice-read-wide
 shared-slice-read-wide c = search needs
 
--- src/image.rt:71:23
 wide-requires : tie.Need-wide-requires
 wide-requires c κs = search needs
 
--- src/image.rt:71:19
 mul-at : tie.Need-mul-at
 mul-at c = search needs
 
--- src/image.rt:71:14
 add-at : tie.Need-add-at
 add-at c = search needs
 
--- src/image.rt:71:40
 mul-at-2 : tie.Need-mul-at-2
 mul-at-2 c = search needs
 
--- src/image.rt:71:14
 add-at-2 : tie.Need-add-at-2
 add-at-2 c = search needs
 
--- src/image.rt:72:18
 shared-slice-read-if1 : tie.Need-shared-slice-read-if1
 shared-slice-read-if1 c = search needs
 
--- src/image.rt:73:9
 returns : tie.Need-returns
 returns c = search (row-state, needs)
 
--- src/image.rt:75:40
 add-read8 : tie.Need-add-read8
 add-read8 c = search needs
 
--- src/image.rt:75:27
 read8-requires : tie.Need-read8-requires
 read8-requires c κs = search needs
 
--- src/image.rt:75:5
 within-requires : tie.Need-within-requires
 within-requires c κs = search needs
 
--- src/image.rt:66:1
 returns-2 : tie.Need-returns-2
 returns-2 c = search (row-case, needs)
 

@@ -14,35 +14,27 @@ Inv-loop image rows i₀ i = RowsLeft image rows i
 abbrev μ-loop : tie.MeasureT-loop
 μ-loop image rows i₀ i = rows - i
 
--- src/image.rt:83:9
 read2-requires : tie.Need-read2-requires Inv-loop μ-loop
 read2-requires c κs = search needs
 
--- src/image.rt:85:5
 loop-holds : tie.Need-loop-holds Inv-loop μ-loop
 loop-holds c = search (rows-none, needs)
 
--- src/image.rt:86:13
 row-holds-requires : tie.Need-row-holds-requires Inv-loop μ-loop
 row-holds-requires c κs = search needs
 
--- src/image.rt:87:13
 returns : tie.Need-returns Inv-loop μ-loop
 returns c = search (row-fails, needs)
 
--- src/image.rt:89:9
 add-i : tie.Need-add-i Inv-loop μ-loop
 add-i c = search needs
 
--- src/image.rt:85:5
 loop-less : tie.Need-loop-less Inv-loop μ-loop
 loop-less c = search needs
 
--- src/image.rt:85:5
 loop-again : tie.Need-loop-again Inv-loop μ-loop
 loop-again c = search (row-next, needs)
 
--- src/image.rt:79:1
 returns-2 : tie.Need-returns-2 Inv-loop μ-loop
 returns-2 c = search (rows-end, needs)
 

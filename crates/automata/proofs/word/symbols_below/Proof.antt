@@ -13,31 +13,24 @@ Inv-loop word symbols i₀ i = SymbolsLeft word symbols i
 abbrev μ-loop : tie.MeasureT-loop
 μ-loop word symbols i₀ i = length word - i
 
--- src/word.rt:19:5
 loop-holds : tie.Need-loop-holds Inv-loop μ-loop
 loop-holds c = search (symbols-none, needs)
 
--- src/word.rt:20:23
 shared-slice-read-if1 : tie.Need-shared-slice-read-if1 Inv-loop μ-loop
 shared-slice-read-if1 c = search needs
 
--- src/word.rt:21:13
 returns : tie.Need-returns Inv-loop μ-loop
 returns c = search (symbol-above, needs)
 
--- src/word.rt:23:9
 add-i : tie.Need-add-i Inv-loop μ-loop
 add-i c = search needs
 
--- src/word.rt:19:5
 loop-less : tie.Need-loop-less Inv-loop μ-loop
 loop-less c = search needs
 
--- src/word.rt:19:5
 loop-again : tie.Need-loop-again Inv-loop μ-loop
 loop-again c = search (symbol-below, needs)
 
--- src/word.rt:15:1
 returns-2 : tie.Need-returns-2 Inv-loop μ-loop
 returns-2 c = search (symbols-end, needs)
 

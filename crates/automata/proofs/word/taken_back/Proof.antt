@@ -12,31 +12,24 @@ Inv-loop image word x case₀ i₀ case i = TakenFrom image word x i case
 abbrev μ-loop : tie.MeasureT-loop
 μ-loop image word x case₀ i₀ case i = i
 
--- src/word.rt:35:5
 loop-holds : tie.Need-loop-holds Inv-loop μ-loop
 loop-holds c = search (taken-none, needs)
 
--- src/word.rt:36:9
 sub-i : tie.Need-sub-i Inv-loop μ-loop
 sub-i c = search needs
 
--- src/word.rt:37:39
 shared-slice-read-t8 : tie.Need-shared-slice-read-t8 Inv-loop μ-loop
 shared-slice-read-t8 c = search needs
 
--- src/word.rt:37:9
 backward-requires : tie.Need-backward-requires Inv-loop μ-loop
 backward-requires c κs = search (symbol-known, needs)
 
--- src/word.rt:35:5
 loop-less : tie.Need-loop-less Inv-loop μ-loop
 loop-less c = search needs
 
--- src/word.rt:35:5
 loop-again : tie.Need-loop-again Inv-loop μ-loop
 loop-again c = search (taken-more, needs)
 
--- src/word.rt:29:1
 returns : tie.Need-returns Inv-loop μ-loop
 returns c = search (taken-end, needs)
 

@@ -9,47 +9,36 @@ use Rattle.automata.proofs.word.symbols_below.Reads as symbols-below-re
 use Rattle.automata.proofs.word.taken_back.Reads as taken-back-reads
 use Rattle.masks.proofs.subset.Reads as subset-reads
 
--- src/word.rt:45:11
 read-image-requires : tie.Need-read-image-requires
 read-image-requires c κs = search needs
 
--- src/word.rt:46:24
 enum-known-number : tie.Need-enum-known-number
 enum-known-number c = search needs
 
--- src/word.rt:46:35
 cast-result : tie.Need-cast-result
 cast-result c = search needs
 
--- src/word.rt:47:22
 enum-known-head : tie.Need-enum-known-head
 enum-known-head c = search needs
 
--- src/word.rt:48:17
 symbols-below-requires : tie.Need-symbols-below-requires
 symbols-below-requires c κs = search needs
 
--- src/word.rt:49:17
 returns : tie.Need-returns
 returns c = search (test-unknown, needs)
 
--- src/word.rt:51:44
 taken-back-requires : tie.Need-taken-back-requires
 taken-back-requires c κs = (search (answer-valid, needs), search (word-symbols, needs))
 
--- src/word.rt:51:16
 subset-requires : tie.Need-subset-requires
 subset-requires c κs = search needs
 
--- src/word.rt:42:1
 returns-2 : tie.Need-returns-2
 returns-2 c = search (test-refused, needs)
 
--- src/word.rt:42:1
 returns-3 : tie.Need-returns-3
 returns-3 c = search (test-accepts, needs)
 
--- src/word.rt:42:1
 returns-4 : tie.Need-returns-4
 returns-4 c = search (test-rejects, needs)
 

@@ -6,15 +6,12 @@ use Rattle.checker.proofs.run.begin.Reads as reads
 use Rattle.checker.proofs.run.begin.Lts as lts
 use Rattle.masks.proofs.subset.Reads as subset-reads
 
--- src/run.rt:41:8
 subset-requires : tie.Need-subset-requires
 subset-requires c κs = search needs
 
--- src/run.rt:37:1
 returns : tie.Need-returns
 returns c = search (start-final, needs)
 
--- src/run.rt:37:1
 returns-2 : tie.Need-returns-2
 returns-2 c = search (start-works, needs)
 

@@ -5,27 +5,21 @@ use Rattle.checker.proofs.run.check_rooms.Tie as tie
 use Rattle.checker.proofs.run.check_rooms.Reads as reads
 use Rattle.checker.proofs.run.check_rooms.Lts as lts
 
--- src/run.rt:67:9
 returns : tie.Need-returns
 returns c = search (odd-blockers, needs)
 
--- src/run.rt:70:9
 returns-2 : tie.Need-returns-2
 returns-2 c = search (odd-word, needs)
 
--- src/run.rt:73:9
 returns-3 : tie.Need-returns-3
 returns-3 c = search (over-blockers, needs)
 
--- src/run.rt:76:9
 returns-4 : tie.Need-returns-4
 returns-4 c = search (over-word, needs)
 
--- src/run.rt:79:9
 returns-5 : tie.Need-returns-5
 returns-5 c = search (over-hints, needs)
 
--- src/run.rt:63:1
 returns-6 : tie.Need-returns-6
 returns-6 c = search (rooms-pass, needs)
 

@@ -7,31 +7,24 @@ use Rattle.checker.proofs.run.clear.Lts as lts
 use Rattle.blockers.proofs.clear.Reads as clear-reads
 use Rattle.pending.proofs.clear.Reads as clear-reads′
 
--- src/run.rt:61:5
 clear-requires : tie.Need-clear-requires
 clear-requires c κs = search needs
 
--- src/run.rt:62:5
 clear-requires-2 : tie.Need-clear-requires-2
 clear-requires-2 c κs = search needs
 
--- src/run.rt:57:1
 same-length : tie.Need-same-length
 same-length c = search needs
 
--- src/run.rt:57:1
 same-length-2 : tie.Need-same-length-2
 same-length-2 c = search needs
 
--- src/run.rt:57:1
 same-length-3 : tie.Need-same-length-3
 same-length-3 c = search needs
 
--- src/run.rt:57:1
 same-length-4 : tie.Need-same-length-4
 same-length-4 c = search needs
 
--- src/run.rt:57:1
 returns : tie.Need-returns
 returns c = search (cleared-is, needs)
 

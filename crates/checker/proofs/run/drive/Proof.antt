@@ -14,43 +14,33 @@ Inv-loop image head masks₀ levels₀ cases₀ symbols₀ hints allowance run�
 abbrev μ-loop : tie.MeasureT-loop
 μ-loop image head masks₀ levels₀ cases₀ symbols₀ hints allowance run₀ masks levels cases symbols run = remaining allowance run
 
--- src/run.rt:99:9
 begin-requires : tie.Need-begin-requires Inv-loop μ-loop
 begin-requires c κs = search needs
 
--- src/run.rt:100:5
 loop-holds : tie.Need-loop-holds Inv-loop μ-loop
 loop-holds c = drive-starts (c .before .before .before .before .before .before .before .args .hints .now) (c .before .before .before .before .before .before .before .args .allowance) (c .before .before .before .before .before .before .before .pre .0) (c .before .before .before .before .before .before .before .pre .1) (c .begin .ensures)
 
--- src/run.rt:101:9
 step-requires : tie.Need-step-requires Inv-loop μ-loop
 step-requires c κs = drive-ready (c .before .before .before .before .before .before .loop .inv) (search needs)
 
--- src/run.rt:100:5
 loop-less : tie.Need-loop-less Inv-loop μ-loop
 loop-less c = drive-less (c .before .before .before .before .before .before .before .before .before .before .before .before .before .before .before .loop .inv) (search needs) (c .before .before .before .before .before .before .before .before .step .ensures)
 
--- src/run.rt:100:5
 loop-again : tie.Need-loop-again Inv-loop μ-loop
 loop-again c = drive-goes (c .before .before .before .before .before .before .before .before .before .before .before .before .before .before .before .loop .inv) (search needs) (c .before .before .before .before .before .before .before .before .step .ensures) (search needs) (search needs) (search needs) (search needs)
 
--- src/run.rt:85:1
 same-length : tie.Need-same-length Inv-loop μ-loop
 same-length c = search needs
 
--- src/run.rt:85:1
 same-length-2 : tie.Need-same-length-2 Inv-loop μ-loop
 same-length-2 c = search needs
 
--- src/run.rt:85:1
 same-length-3 : tie.Need-same-length-3 Inv-loop μ-loop
 same-length-3 c = search needs
 
--- src/run.rt:85:1
 same-length-4 : tie.Need-same-length-4 Inv-loop μ-loop
 same-length-4 c = search needs
 
--- src/run.rt:85:1
 returns : tie.Need-returns Inv-loop μ-loop
 returns c = drive-ends (c .before .before .loop .inv) (search needs)
 

@@ -8,35 +8,27 @@ use Rattle.checker.proofs.run.clear.Reads as clear-reads
 use Rattle.checker.proofs.run.count_up.Reads as count-up-reads
 use Rattle.checker.proofs.run.drive.Reads as drive-reads
 
--- src/run.rt:144:5
 clear-requires : tie.Need-clear-requires
 clear-requires c κs = search needs
 
--- src/run.rt:145:14
 drive-requires : tie.Need-drive-requires
 drive-requires c κs = (cleared-runnable (c .before .before .before .before .before .before .before .before .before .before .before .before .before .before .before .before .before .before .before .before .before .before .before .pre) (c .before .before .before .before .before .before .before .before .before .before .before .before .clear .ensures), cleared-itself (c .before .before .before .before .before .before .before .before .before .before .before .before .before .before .before .before .before .before .before .before .before .before .before .pre) (c .before .before .before .before .before .before .before .before .before .before .before .before .clear .ensures))
 
--- src/run.rt:145:5
 count-up-requires : tie.Need-count-up-requires
 count-up-requires c κs = search needs
 
--- src/run.rt:130:1
 same-length : tie.Need-same-length
 same-length c = search needs
 
--- src/run.rt:130:1
 same-length-2 : tie.Need-same-length-2
 same-length-2 c = search needs
 
--- src/run.rt:130:1
 same-length-3 : tie.Need-same-length-3
 same-length-3 c = search needs
 
--- src/run.rt:130:1
 same-length-4 : tie.Need-same-length-4
 same-length-4 c = search needs
 
--- src/run.rt:130:1
 returns : tie.Need-returns
 returns c = go-is (c .before .before .before .before .before .before .before .before .before .before .before .before .before .before .before .before .before .before .before .before .before .before .before .before .before .before .before .before .before .before .before .before .before .pre) (c .before .before .before .before .before .before .before .before .before .before .before .before .before .before .before .before .before .before .before .before .before .before .clear .ensures) (c .before .before .before .before .before .before .before .before .before .before .before .before .before .before .before .before .before .before .before .before .before .before .before .before .before .before .before .before .before .before .before .before .before .args .hints .now) (c .before .before .before .before .before .before .before .before .before .before .before .before .before .before .before .before .before .before .before .before .before .before .before .before .before .before .before .before .before .before .before .before .before .args .allowance) (c .before .before .before .before .before .before .before .before .before .drive .result) (c .count-up .ensures) (c .before .before .before .before .before .before .before .before .before .drive .ensures)
 

@@ -9,79 +9,60 @@ use Rattle.checker.proofs.run.check_rooms.Reads as check-rooms-reads
 use Rattle.checker.proofs.run.go.Reads as go-reads
 use Rattle.checker.proofs.run.refuse.Reads as refuse-reads
 
--- src/run.rt:161:11
 read-image-requires : tie.Need-read-image-requires
 read-image-requires c κs = search needs
 
--- src/run.rt:162:24
 enum-known-number : tie.Need-enum-known-number
 enum-known-number c = search needs
 
--- src/run.rt:162:42
 cast-refuse : tie.Need-cast-refuse
 cast-refuse c = search needs
 
--- src/run.rt:162:35
 refuse-requires : tie.Need-refuse-requires
 refuse-requires c κs = search needs
 
--- src/run.rt:163:22
 enum-known-head : tie.Need-enum-known-head
 enum-known-head c = search needs
 
--- src/run.rt:164:17
 check-rooms-requires : tie.Need-check-rooms-requires
 check-rooms-requires c κs = search needs
 
--- src/run.rt:166:17
 refuse-requires-2 : tie.Need-refuse-requires-2
 refuse-requires-2 c κs = search needs
 
--- src/run.rt:166:17
 same-length : tie.Need-same-length
 same-length c = search needs
 
--- src/run.rt:166:17
 same-length-2 : tie.Need-same-length-2
 same-length-2 c = search needs
 
--- src/run.rt:166:17
 same-length-3 : tie.Need-same-length-3
 same-length-3 c = search needs
 
--- src/run.rt:166:17
 same-length-4 : tie.Need-same-length-4
 same-length-4 c = search needs
 
--- src/run.rt:166:17
 returns : tie.Need-returns
 returns c = run-refuses-rooms _ _ _ _ _ (c .before .before .before .before .before .before .before .before .before .before .before .before .before .before .before .before .before .args .hints .now) (c .before .before .before .before .before .before .before .before .before .before .before .before .before .before .before .before .before .args .allowance) _ (c .before .before .before .before .before .before .before .before .before .before .read-image .ensures) _ (c .before .before .before .before .before .before .before .before .head .given .1) _ (c .before .before .check-rooms .ensures) _ (search needs) (c .refuse2 .ensures)
 
--- src/run.rt:168:13
 go-requires : tie.Need-go-requires
 go-requires c κs = run-runnable _ _ _ _ _ (c .before .before .before .before .before .before .before .before .before .before .before .before .before .before .before .before .before .before .before .before .args .hints .now) (c .before .before .before .before .before .before .before .before .before .before .before .before .before .before .before .before .before .before .before .before .args .allowance) _ (c .before .before .before .before .before .before .before .before .before .before .before .before .before .read-image .ensures) _ (c .before .before .before .before .before .before .before .before .before .before .before .head .given .1) _ (c .before .before .before .before .before .check-rooms .ensures) (search needs)
 
--- src/run.rt:149:1
 returns-2 : tie.Need-returns-2
 returns-2 c = run-refuses-image _ _ _ _ _ (c .before .before .before .before .before .before .before .before .before .before .before .args .hints .now) (c .before .before .before .before .before .before .before .before .before .before .before .args .allowance) _ (c .before .before .before .before .read-image .ensures) _ _ (c .before .before .number .given .1) (c .refuse .ensures)
 
--- src/run.rt:149:1
 same-length-5 : tie.Need-same-length-5
 same-length-5 c = search needs
 
--- src/run.rt:149:1
 same-length-6 : tie.Need-same-length-6
 same-length-6 c = search needs
 
--- src/run.rt:149:1
 same-length-7 : tie.Need-same-length-7
 same-length-7 c = search needs
 
--- src/run.rt:149:1
 same-length-8 : tie.Need-same-length-8
 same-length-8 c = search needs
 
--- src/run.rt:149:1
 returns-3 : tie.Need-returns-3
 returns-3 c = run-goes _ _ _ _ _ (c .before .before .before .before .before .before .before .before .before .before .before .before .before .before .before .before .before .before .before .before .before .before .before .before .before .before .before .before .before .args .hints .now) (c .before .before .before .before .before .before .before .before .before .before .before .before .before .before .before .before .before .before .before .before .before .before .before .before .before .before .before .before .before .args .allowance) _ (c .before .before .before .before .before .before .before .before .before .before .before .before .before .before .before .before .before .before .before .before .before .before .read-image .ensures) _ (c .before .before .before .before .before .before .before .before .before .before .before .before .before .before .before .before .before .before .before .before .head .given .1) _ (c .before .before .before .before .before .before .before .before .before .before .before .before .before .before .check-rooms .ensures) _ (search needs) (c .before .before .before .before .before .before .before .before .go .ensures)
 

@@ -8,27 +8,21 @@ use Rattle.checker.proofs.steps.close_level.Lts as lts
 use Rattle.checker.proofs.steps.working_unless.Reads as working-unless-reads
 use Rattle.closing.proofs.close.Reads as close-reads
 
--- src/steps.rt:307:9
 close-requires : tie.Need-close-requires
 close-requires c κs = (ready-given (c .before .before .before .before .before .before .before .before .pre .0), level-small (c .before .before .before .before .before .before .before .before .pre .0))
 
--- src/steps.rt:309:17
 working-unless-requires : tie.Need-working-unless-requires
 working-unless-requires c κs = search needs
 
--- src/steps.rt:310:16
 add-t15 : tie.Need-add-t15
 add-t15 c = search needs
 
--- src/steps.rt:292:1
 same-length : tie.Need-same-length
 same-length c = search needs
 
--- src/steps.rt:292:1
 same-length-2 : tie.Need-same-length-2
 same-length-2 c = search needs
 
--- src/steps.rt:292:1
 returns : tie.Need-returns
 returns c = close-is (c .before .before .before .before .before .before .before .before .before .before .before .before .before .before .before .pre .0) (c .before .before .before .before .before .before .before .before .before .before .before .before .before .before .before .pre .1) (c .before .before .before .before .before .before .close .ensures) (c .before .working-unless .ensures)
 

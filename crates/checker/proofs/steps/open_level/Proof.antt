@@ -8,47 +8,36 @@ use Rattle.checker.proofs.steps.open_level.Lts as lts
 use Rattle.checker.proofs.steps.pend_final.Reads as pend-final-reads
 use Rattle.checker.proofs.steps.stop.Reads as stop-reads
 
--- src/steps.rt:73:23
 cast-if1 : tie.Need-cast-if1
 cast-if1 c = search needs
 
--- src/steps.rt:74:9
 stop-requires : tie.Need-stop-requires
 stop-requires c κs = search needs
 
--- src/steps.rt:74:9
 same-length : tie.Need-same-length
 same-length c = search needs
 
--- src/steps.rt:74:9
 same-length-2 : tie.Need-same-length-2
 same-length-2 c = search needs
 
--- src/steps.rt:74:9
 returns : tie.Need-returns
 returns c = search (open-lacks, needs)
 
--- src/steps.rt:76:22
 add-t18 : tie.Need-add-t18
 add-t18 c = search needs
 
--- src/steps.rt:77:9
 pend-final-requires : tie.Need-pend-final-requires
 pend-final-requires c κs = (search (ready-given, needs), search (open-room, needs))
 
--- src/steps.rt:80:16
 add-t23 : tie.Need-add-t23
 add-t23 c = search needs
 
--- src/steps.rt:58:1
 same-length-3 : tie.Need-same-length-3
 same-length-3 c = search needs
 
--- src/steps.rt:58:1
 same-length-4 : tie.Need-same-length-4
 same-length-4 c = search needs
 
--- src/steps.rt:58:1
 returns-2 : tie.Need-returns-2
 returns-2 c = search (open-goes, needs)
 

@@ -6,19 +6,15 @@ use Rattle.checker.proofs.steps.stop.Reads as reads
 use Rattle.checker.proofs.steps.stop.Lts as lts
 use Rattle.pending.proofs.clear.Reads as clear-reads
 
--- src/steps.rt:22:5
 clear-requires : tie.Need-clear-requires
 clear-requires c κs = search needs
 
--- src/steps.rt:18:1
 same-length : tie.Need-same-length
 same-length c = search needs
 
--- src/steps.rt:18:1
 same-length-2 : tie.Need-same-length-2
 same-length-2 c = search needs
 
--- src/steps.rt:18:1
 returns : tie.Need-returns
 returns c = search (stop-is, needs)
 

@@ -8,39 +8,30 @@ use Rattle.checker.proofs.steps.unpend.Lts as lts
 use Rattle.checker.proofs.steps.pend_after.Reads as pend-after-reads
 use Rattle.pending.proofs.pop.Reads as pop-reads
 
--- src/steps.rt:128:16
 sub-rest : tie.Need-sub-rest
 sub-rest c = search needs
 
--- src/steps.rt:129:5
 pop-requires : tie.Need-pop-requires
 pop-requires c κs = search needs
 
--- src/steps.rt:131:9
 pend-after-requires : tie.Need-pend-after-requires
 pend-after-requires c κs = search needs
 
--- src/steps.rt:144:16
 add-t22 : tie.Need-add-t22
 add-t22 c = search needs
 
--- src/steps.rt:149:17
 add-t23 : tie.Need-add-t23
 add-t23 c = record { fits = search (blocks-fit, needs) }
 
--- src/steps.rt:150:19
 add-t24 : tie.Need-add-t24
 add-t24 c = record { fits = accepted-fit (c .before .before .before .before .before .before .before .before .before .before .before .before .before .before .before .before .before .before .before .before .before .before .before .before .pre .2) }
 
--- src/steps.rt:114:1
 same-length : tie.Need-same-length
 same-length c = search needs
 
--- src/steps.rt:114:1
 same-length-2 : tie.Need-same-length-2
 same-length-2 c = search needs
 
--- src/steps.rt:114:1
 returns : tie.Need-returns
 returns c = let a = c .before .before .before .before .before .before .before .before .before .before .before .before .before .before .before .before .before .before .before .before .before .before .before .before .args in
     unpend-is (a .image .now) (tableOf (a .held) (a .masks .now) (a .levels .now)) (a .run .level .0) _ _ _ _ _ _ _ _ _ _ (c .before .before .before .before .before .before .before .before .before .before .before .before .before .before .before .before .before .before .before .before .before .before .before .before .pre .2) (c .before .before .before .before .before .before .before .before .before .before .before .before .before .before .before .pop .ensures) (c .before .before .before .before .before .before .before .pend-after .ensures)

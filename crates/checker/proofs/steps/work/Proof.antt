@@ -11,111 +11,84 @@ use Rattle.checker.proofs.steps.pend_more.Reads as pend-more-reads
 use Rattle.choices.proofs.first_symbol.Reads as first-symbol-reads
 use Rattle.masks.proofs.subset.Reads as subset-reads
 
--- src/steps.rt:260:19
 sub-x : tie.Need-sub-x
 sub-x c = search needs
 
--- src/steps.rt:260:13
 mul-x : tie.Need-mul-x
 mul-x c = search needs
 
--- src/steps.rt:260:13
 slice-read-x : tie.Need-slice-read-x
 slice-read-x c = search needs
 
--- src/steps.rt:261:37
 cast-t18 : tie.Need-cast-t18
 cast-t18 c = search needs
 
--- src/steps.rt:261:23
 sub-t19 : tie.Need-sub-t19
 sub-t19 c = search needs
 
--- src/steps.rt:262:9
 first-symbol-requires : tie.Need-first-symbol-requires
 first-symbol-requires c κs = search needs
 
--- src/steps.rt:263:19
 enum-known-found : tie.Need-enum-known-found
 enum-known-found c = search needs
 
--- src/steps.rt:267:13
 enum-told : tie.Need-enum-told
 enum-told c = search needs
 
--- src/steps.rt:264:9
 block-requires : tie.Need-block-requires
 block-requires c κs = (c .before .before .before .before .before .before .before .before .before .before .before .before .before .before .before .before .before .before .before .pre .0, c .before .before .before .before .before .before .before .before .before .before .before .before .before .before .before .before .before .before .before .pre .1, below-small (c .before .before .before .before .before .before .before .before .before .before .before .before .before .before .before .before .before .before .before .pre .0) (c .before .before .before .before .before .before .before .before .before .before .before .before .before .before .before .before .before .before .before .pre .1), c .before .before .before .before .before .before .before .before .before .before .before .before .before .before .before .before .before .before .before .pre .2)
 
--- src/steps.rt:264:9
 same-length : tie.Need-same-length
 same-length c = search needs
 
--- src/steps.rt:264:9
 same-length-2 : tie.Need-same-length-2
 same-length-2 c = search needs
 
--- src/steps.rt:264:9
 same-length-3 : tie.Need-same-length-3
 same-length-3 c = search needs
 
--- src/steps.rt:264:9
 same-length-4 : tie.Need-same-length-4
 same-length-4 c = search needs
 
--- src/steps.rt:264:9
 returns : tie.Need-returns
 returns c = work-blocks (c .before .before .before .before .before .before .before .before .before .before .before .before .before .before .before .before .before .before .before .before .before .before .before .before .before .before .before .before .pre .0) (c .before .before .before .before .before .before .before .before .before .before .before .before .before .before .before .before .before .before .before .before .before .before .before .before .before .before .before .before .pre .1) (c .before .before .before .before .before .before .before .before .before .before .before .before .before .before .before .before .before .before .before .before .before .before .before .before .before .before .before .before .args .hints .now) (c .before .before .before .before .before .before .before .before .before .before .before .before .before .before .before .first-symbol .ensures) (search needs) (c .before .before .before .before .before .before .before .before .block .ensures)
 
--- src/steps.rt:277:8
 subset-requires : tie.Need-subset-requires
 subset-requires c κs = search needs
 
--- src/steps.rt:278:9
 find-word-requires : tie.Need-find-word-requires
 find-word-requires c κs = (ready-word (c .before .before .before .before .before .before .before .before .before .before .before .before .before .before .before .before .before .before .before .before .pre .0), c .before .before .before .before .before .before .before .before .before .before .before .before .before .before .before .before .before .before .before .before .pre .1, c .before .before .before .before .before .before .before .before .before .before .before .before .before .before .before .before .before .before .before .before .pre .2)
 
--- src/steps.rt:278:9
 same-length-5 : tie.Need-same-length-5
 same-length-5 c = search needs
 
--- src/steps.rt:278:9
 same-length-6 : tie.Need-same-length-6
 same-length-6 c = search needs
 
--- src/steps.rt:278:9
 same-length-7 : tie.Need-same-length-7
 same-length-7 c = search needs
 
--- src/steps.rt:278:9
 same-length-8 : tie.Need-same-length-8
 same-length-8 c = search needs
 
--- src/steps.rt:278:9
 returns-2 : tie.Need-returns-2
 returns-2 c = work-finds (c .before .before .before .before .before .before .before .before .before .before .before .before .before .before .before .before .before .before .before .before .before .before .before .before .before .pre .0) (c .before .before .before .before .before .before .before .before .before .before .before .before .before .before .before .before .before .before .before .before .before .before .before .before .before .pre .1) (c .before .before .before .before .before .before .before .before .before .before .before .before .before .before .before .before .before .before .before .before .before .before .before .before .before .args .hints .now) (c .before .before .before .before .before .before .before .before .before .before .before .before .first-symbol .ensures) _ _ (search needs) _ (c .before .before .before .before .before .before .before .before .subset .ensures) (search needs) (c .before .before .before .before .find-word .ensures)
 
--- src/steps.rt:280:5
 pend-more-requires : tie.Need-pend-more-requires
 pend-more-requires c κs = (pend-room (c .before .before .before .before .before .before .before .before .before .before .before .before .before .before .before .before .before .before .before .before .pre .0) (c .before .before .before .before .before .before .before .before .before .before .before .before .before .before .before .before .before .before .before .before .pre .1) (c .before .before .before .before .before .before .before .before .before .before .before .before .before .before .before .before .before .before .before .before .args .hints .now) (c .before .before .before .before .before .before .before .first-symbol .ensures) _ _ (c .before .before .before .before .before .found .given .1) _ (c .before .before .before .subset .ensures) (search needs), c .before .before .before .before .before .before .before .before .before .before .before .before .before .before .before .before .before .before .before .before .pre .2)
 
--- src/steps.rt:242:1
 same-length-9 : tie.Need-same-length-9
 same-length-9 c = search needs
 
--- src/steps.rt:242:1
 same-length-10 : tie.Need-same-length-10
 same-length-10 c = search needs
 
--- src/steps.rt:242:1
 same-length-11 : tie.Need-same-length-11
 same-length-11 c = search needs
 
--- src/steps.rt:242:1
 same-length-12 : tie.Need-same-length-12
 same-length-12 c = search needs
 
--- src/steps.rt:242:1
 returns-3 : tie.Need-returns-3
 returns-3 c = work-pends (c .before .before .before .before .before .before .before .before .before .before .before .before .before .before .before .before .before .before .before .before .before .before .before .before .before .pre .0) (c .before .before .before .before .before .before .before .before .before .before .before .before .before .before .before .before .before .before .before .before .before .before .before .before .before .pre .1) (c .before .before .before .before .before .before .before .before .before .before .before .before .before .before .before .before .before .before .before .before .before .before .before .before .before .args .hints .now) (c .before .before .before .before .before .before .before .before .before .before .before .before .first-symbol .ensures) _ _ (search needs) _ (c .before .before .before .before .before .before .before .before .subset .ensures) (search needs) (c .before .before .before .before .pend-more .ensures)
 
