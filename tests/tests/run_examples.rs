@@ -1,4 +1,5 @@
-//! The papers' runs, with the five numbers and every place worked out there.
+//! Runs whose five numbers are known beforehand, with every place that they leave: models A to D, the
+//! rings, and the largest sizes and their neighbours.
 
 use afa_tests::compare::run::Comparison;
 use afa_tests::image::{model_a, model_b, model_c, model_d, rings, Model};
@@ -6,7 +7,7 @@ use afa_tests::random::Random;
 use afa_tests::search::{is_closed, shortest_word};
 use afa_tests::tables::{Answer, Lent, Tables};
 
-/// What a run is lent, which is as in the papers' program where a line does not say otherwise.
+/// What a run is lent, which is as in the program where a line does not say otherwise.
 #[derive(Clone, Copy)]
 struct Terms<'a> {
     blocker_room: usize,
@@ -38,6 +39,19 @@ fn expect(model: &Model, terms: Terms, numbers: [u64; 5], entries: &[(u64, u32)]
     }
     expected.symbols[..word.len()].copy_from_slice(word);
     assert_eq!(after, expected, "{model}");
+}
+
+/// The number and four zeros, and every place as it was.
+fn expect_refused(image: &[u8], terms: Terms, number: u64) {
+    let lent = Lent {
+        before: Tables::filled(&mut Random::seeded(2), terms.blocker_room, terms.word_room),
+        hints: terms.hints.to_vec(),
+        allowance: terms.allowance,
+    };
+    let origin = format!("expected to give {number}");
+    let (answer, after) = Comparison::default().run(image, &lent, &origin);
+    assert_eq!(answer, Answer::of_numbers([number, 0, 0, 0, 0]));
+    assert!(after == lent.before, "{origin}");
 }
 
 #[test]
@@ -125,42 +139,98 @@ fn d() {
 }
 
 #[test]
+fn nineteen_bytes() {
+    expect_refused(&[0; 19], PROGRAM, 20);
+    expect_refused(&model_c().image()[..19], PROGRAM, 20);
+}
+
+/// k 1, no rows, I state 63 and F state 0: the frame is all states but 63, if there are 64.
+#[test]
+fn n_64_and_65() {
+    let mut model = Model::new(64, 1 << 63, 1, &[&[]]);
+    let frame = [((1 << 63) - 1, 2)];
+    expect(&model, PROGRAM, [0, 3, 1, 1, 0], &frame, &[]);
+    model.states = 65;
+    expect_refused(&model.image(), PROGRAM, 21);
+}
+
+/// The longest image, with I state 1 and F empty; all its rows are (0, 0), so the frame is all states
+/// but 1. Then the same with one row more.
+#[test]
+fn m_4096_and_4097() {
+    let mut model = Model::plain(64, 64, 4096);
+    model.initial = 2;
+    assert_eq!(model.image().len(), 37_396);
+    let frame = [(u64::MAX - 2, 2)];
+    expect(&model, PROGRAM, [0, 3, 1, 1, 0], &frame, &[]);
+    let mut longer = Model::plain(64, 64, 4097);
+    longer.initial = 2;
+    expect_refused(&longer.image(), PROGRAM, 23);
+}
+
+/// C in rooms of 65,536 places and with as many hints, of which only the first is asked for.
+#[test]
 fn most_places() {
-    let program = PROGRAM;
-    let hints = vec![4; 65_536];
     for (blocker_room, word_room, hint_count) in [
-        (65_536, 256, 1),
-        (256, 65_536, 1),
-        (65_536, 65_536, 1),
+        (65_536, 256, 0),
+        (256, 65_536, 0),
+        (65_536, 65_536, 0),
         (256, 256, 65_536),
         (65_536, 65_536, 65_536),
+    ] {
+        for hint in [0, 4, 6] {
+            let terms = Terms {
+                blocker_room,
+                word_room,
+                hints: &vec![hint; hint_count],
+                ..PROGRAM
+            };
+            let (accepted, blocker) = match (hint_count, hint) {
+                (0, _) | (_, 6) => (0, 2),
+                _ => (1, hint),
+            };
+            let numbers = [1, 6, 2, 1, accepted];
+            expect(&model_c(), terms, numbers, &[(blocker, 1)], &[0, 1]);
+        }
+    }
+}
+
+#[test]
+fn one_place_too_many() {
+    for (blocker_room, word_room, hint_count) in [
+        (65_537, 256, 0),
+        (256, 65_537, 0),
+        (65_537, 65_537, 0),
+        (256, 256, 65_537),
+        (65_537, 65_537, 65_537),
     ] {
         let terms = Terms {
             blocker_room,
             word_room,
-            hints: &hints[..hint_count],
-            ..program
+            hints: &vec![0; hint_count],
+            ..PROGRAM
         };
-        expect(&model_c(), terms, [1, 6, 2, 1, 1], &[(4, 1)], &[0, 1]);
+        expect_refused(&model_c().image(), terms, 31);
     }
-    let hints = vec![4; 65_537];
-    for (blocker_room, word_room, hint_count) in [
-        (65_537, 256, 1),
-        (256, 65_537, 1),
-        (256, 256, 65_537),
-        (65_537, 65_537, 65_537),
-    ] {
-        let before = Tables::filled(&mut Random::seeded(2), blocker_room, word_room);
-        let lent = Lent {
-            before: before.clone(),
-            hints: hints[..hint_count].to_vec(),
-            allowance: program.allowance,
-        };
-        let model = model_c();
-        let (answer, after) = Comparison::default().run(&model.image(), &lent, &model);
-        assert_eq!(answer, Answer::of_numbers([31, 0, 0, 0, 0]));
-        assert!(after == before);
-    }
+}
+
+/// What the run of the rings of 2, 3 and 5 states holds at its end, each blocker as mask@level.
+const RINGS_2_3_5: &str = "\
+    927@1 799@2 543@3 983@1 911@2 827@3 599@4 59@4 87@5 143@6 283@7 535@8 171@5 339@6 647@7 \
+    299@8 595@9 43@9 83@10 135@11 267@12 531@13 989@1 958@2 861@3 702@4 377@5 726@6 397@7 794@8 \
+    533@9 46@10 89@11 150@12 269@13 538@14 561@9 102@10 201@11 402@12 773@13 554@14 113@15 \
+    198@16 393@17 786@18 38@14 73@15 146@16 261@17 522@18 49@19 70@20 137@21 274@22 517@23 42@24 \
+    81@25 134@26 265@27 530@28";
+
+#[test]
+fn rings_2_3_5() {
+    let entry = |entry: &str| {
+        let (mask, level) = entry.split_once('@').unwrap();
+        (mask.parse().unwrap(), level.parse().unwrap())
+    };
+    let entries: Vec<(u64, u32)> = RINGS_2_3_5.split_whitespace().map(entry).collect();
+    let model = rings(&[2, 3, 5]);
+    expect(&model, PROGRAM, [1, 219, 29, 61, 0], &entries, &[0; 29]);
 }
 
 /// With 1,024 places and 4^11 steps. The last has levels that one byte does not hold.
