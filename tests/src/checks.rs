@@ -1,4 +1,4 @@
-//! The checks of an image, 20 to 27, in the scope document's order, on any bytes. All numbers are
+//! The checks of an image, 20 to 27, in the order of `docs/FORMAT.md`, on any bytes. All numbers are
 //! taken as 64 bits wide, where no offset or length can wrap.
 
 /// What an image that no check refuses says of itself.

@@ -1,5 +1,5 @@
 //! An automaton as data, the writer of its image, the reader of an image that no check refuses, and
-//! the papers' models A to D.
+//! the models A to D of `models/`.
 
 use std::fmt;
 
@@ -106,7 +106,7 @@ impl Model {
     }
 }
 
-/// The papers' way of writing a model down. Symbols without rows are left out.
+/// On one line, cases as numbers. Symbols without rows are left out.
 impl fmt::Display for Model {
     fn fmt(&self, out: &mut fmt::Formatter<'_>) -> fmt::Result {
         let (n, k) = (self.states, self.symbols());

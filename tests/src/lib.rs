@@ -1,4 +1,4 @@
-//! The library's C interface, called from outside, and an implementation of the scope document that
+//! The library's C interface, called from outside, and an implementation of the requirements that
 //! shares nothing with it. The tests compare the two: `cargo test --release`, and with
 //! `-- --nocapture` they say how much they have compared. `cargo bench` compares their speed.
 

@@ -1,6 +1,7 @@
-//! The machine of the scope document, in its order: open, extend, block, close. It works in place on
-//! the tables that a run is lent and allocates nothing. Every test that the document names is made
-//! whenever it is named; nothing that was found is kept from one step to the next.
+//! The machine of a run, in the order of the requirements: open, extend, block, close. What stands in
+//! quotes is theirs (`docs/FORMAT.md`). It works in place on the tables that a run is lent and
+//! allocates nothing. Every test is made whenever they name it; nothing that was found is kept from
+//! one step to the next.
 
 use crate::checks::check;
 use crate::tables::{Answer, Rooms};
@@ -275,8 +276,8 @@ impl<Observe: FnMut(Event)> Machine<'_, Observe> {
         self.pending += 1;
     }
 
-    /// "Pending cases are all 0; the symbol table holds the word from its first place on 'hit' and 0
-    /// elsewhere; the blocker room holds the entries in table order, with 0 after them."
+    /// "Pending cases are all 0"; the symbol table holds the word from its first place if the answer is
+    /// 1, "and 0 elsewhere; the blocker room holds the entries in table order, with 0 after them."
     fn finish(self, number: u64) -> Answer {
         self.cases.fill(0);
         self.symbols[self.word_length..].fill(0);

@@ -1,4 +1,5 @@
-//! The machine alone, without the library: the papers' numbers, and its verdicts by the search.
+//! The machine alone, without the library: numbers that are known beforehand, and its verdicts by the
+//! search.
 
 use afa_tests::generate::hints::hints;
 use afa_tests::generate::runs::{run_model_of, Earlier};
@@ -9,7 +10,7 @@ use afa_tests::search::assert_right;
 use afa_tests::tables::{Answer, Tables};
 
 #[test]
-fn papers_numbers() {
+fn known_numbers() {
     for (model, hints, numbers) in [
         (model_a(), &[][..], [0, 3, 1, 1, 0]),
         (model_b(), &[], [1, 2, 1, 0, 0]),

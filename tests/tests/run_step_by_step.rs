@@ -44,7 +44,7 @@ fn every_allowance(
 }
 
 #[test]
-fn papers_models() {
+fn known_models() {
     let mut random = Random::seeded(31);
     let mut comparison = Comparison::default();
     for (model, steps) in [

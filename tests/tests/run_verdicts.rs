@@ -1,5 +1,5 @@
-//! The third demand on models of up to 8 states: with 2^n places a room and 4^(n+1) steps every run
-//! has a verdict, with any hints, and it is the one that a search over all cases gives.
+//! Models of up to 8 states: with 2^n places a room and 4^(n+1) steps every run has a verdict, with any
+//! hints, and it is the one that a search over all cases gives.
 
 use afa_tests::compare::run::Comparison;
 use afa_tests::generate::hints::{hints, passing_hints};

@@ -28,7 +28,7 @@ fn plain(state_count: u8, row_count: u16) -> Vec<u8> {
 }
 
 #[test]
-fn image_of_a_is_as_the_paper_says() {
+fn image_of_a_byte_by_byte() {
     let mut expected = vec![3, 2, 3, 0];
     expected.extend([1, 0, 0, 0, 0, 0, 0, 0]);
     expected.extend([4, 0, 0, 0, 0, 0, 0, 0]);

@@ -1,4 +1,5 @@
-//! The papers' models, and the two ways in which the word test is said to go astray.
+//! Models A to D with all they accept, and the two ways in which a word test easily goes astray: the
+//! empty case taken as dead, and a row's case that must equal the set to count.
 
 use afa_tests::acceptance::{Runs, Start};
 use afa_tests::afa::Library;
