@@ -7,6 +7,7 @@ use crate::random::Random;
 
 pub mod hints;
 pub mod runs;
+pub mod stops;
 
 /// A number of states or symbols.
 fn size(random: &mut Random) -> usize {

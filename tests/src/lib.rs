@@ -16,3 +16,4 @@ pub mod random;
 pub mod rearrange;
 pub mod search;
 pub mod tables;
+pub mod text;

@@ -1,0 +1,54 @@
+//! A reader of models as text (`docs/FORMAT.md`) that shares nothing with the model tool's. It is for
+//! texts that are well formed, and panics at the others that it notices.
+
+use crate::image::{Model, Row};
+
+pub fn read(text: &str) -> Model {
+    let (mut states, mut events) = (Vec::new(), Vec::new());
+    let mut model = Model::new(0, 0, 0, &[]);
+    for line in text.lines() {
+        let said = line.split('#').next().unwrap_or("").replace(':', " : ");
+        let words: Vec<&str> = said.split_whitespace().collect();
+        match words[..] {
+            [] => {}
+            ["states", ref words @ ..] => {
+                states = names(words);
+                model.states = states.len();
+            }
+            ["events", ref words @ ..] => {
+                events = names(words);
+                model.rows = vec![Vec::new(); events.len()];
+            }
+            ["initial", ref words @ ..] => model.initial = case(&states, words),
+            ["final", ref words @ ..] => model.final_set = case(&states, words),
+            ["row", state, event, ":", ref words @ ..] => {
+                let state = number(&states, state) as u8;
+                let case = case(&states, words);
+                model.rows[number(&events, event)].push(Row { state, case });
+            }
+            _ => panic!("what is this line? {line}"),
+        }
+    }
+    model
+}
+
+/// The names on a line, or the numbers up to the one that stands there alone.
+fn names(words: &[&str]) -> Vec<String> {
+    match words {
+        [word] if word.parse::<usize>().is_ok() => {
+            let count = word.parse().unwrap();
+            (0..count).map(|number: usize| number.to_string()).collect()
+        }
+        _ => words.iter().map(|word| word.to_string()).collect(),
+    }
+}
+
+fn number(names: &[String], word: &str) -> usize {
+    let named = names.iter().position(|name| name == word);
+    named.unwrap_or_else(|| word.parse().expect("a name or a number"))
+}
+
+fn case(states: &[String], words: &[&str]) -> u64 {
+    let states = words.iter().map(|word| number(states, word));
+    states.fold(0, |case, state| case | 1 << state)
+}
