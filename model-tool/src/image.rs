@@ -1,4 +1,4 @@
-//! Images: the bytes that the checker reads. Numbers in them are little-endian.
+//! Images: the bytes that the checker reads, as `docs/FORMAT.md` has them.
 
 #[cfg(test)]
 mod tests;

@@ -22,13 +22,12 @@ usage:
   afa-model explain MODEL.txt   read the checker's two lines from standard input, say what they
                                 mean; status 1 if it refused the image
 
-a model's text:
-  # a comment
-  states  shown stale fresh     names, or how many: states 3
-  events  tick refresh          names, or how many: events 2
-  initial shown                 the initial case
-  final   stale fresh           the final set
-  row shown tick : stale fresh  a state, an event and a case, which may be empty; 0 to 4,096 rows
+a model's text, which docs/FORMAT.md explains:
+  states  shown stale fresh       # names, or how many: states 3
+  events  tick refresh            # names, or how many: events 2
+  initial shown                   # the initial case
+  final   stale fresh             # the final set
+  row shown tick : stale fresh    # a state, an event and a case, which may be empty
 ";
 
 fn main() -> ExitCode {

@@ -1,5 +1,6 @@
-//! Models as text, a line for each thing said; `#` begins a comment. `states` and `events` give the
-//! names or how many there are; the lines after them write each by its name or its number.
+//! Models as text, as `docs/FORMAT.md` says: a line for each thing said; `#` begins a comment. `states`
+//! and `events` give the names or how many there are; the lines after them write each by its name or
+//! its number.
 //!
 //! ```text
 //! states  shown stale fresh
