@@ -1,6 +1,15 @@
 /* The C interface of the proved checker for alternating finite automata.
-   Numbers and sizes are those of the README. No function keeps what it is
-   lent, and none reads or writes outside it: every input is answered. */
+   docs/FORMAT.md has the image byte by byte, the numbers that the functions
+   answer, and what a run leaves in each table.
+
+   Every input is answered. No function keeps what it is lent, and none reads
+   or writes outside it, if the caller sees to three things:
+   - A pointer is good for the length beside it, which counts elements. It may
+     be null where that length is 0. head and counts are never null.
+   - Tables are aligned as their type, head and counts too.
+   - Tables must not overlap: what a function may write (head, masks, levels,
+     cases, symbols, counts) shares no byte with anything else that it is lent
+     in the same call. */
 #ifndef AFA_H
 #define AFA_H
 
@@ -23,10 +32,11 @@ uint64_t afa_accepts(const uint8_t *image, size_t image_len,
 
 /* Decides whether any word is accepted, in two rooms that the caller lends:
    masks and levels for blockers, cases and symbols for pending cases and the
-   word. 0 is empty, 1 is nonempty, 2, 3 and 4 are a run that stopped for want
-   of steps, blocker room or word room; 20 to 27, 30 and 31 are refusals, and
-   leave every table as it was. counts has steps, level, blockers held and hints
-   accepted, all 0 where refused. */
+   word. 0 is empty, and masks begin with the frame; 1 is nonempty, and symbols
+   begin with a shortest word, whose length is the level; 2, 3 and 4 are a run
+   that stopped for want of steps, blocker room or word room; 20 to 27, 30 and
+   31 are refusals, and leave every table as it was. counts has steps, level,
+   blockers held and hints accepted, all 0 where refused. */
 uint64_t afa_run(const uint8_t *image, size_t image_len,
                  uint64_t *masks, size_t masks_len,
                  uint32_t *levels, size_t levels_len,

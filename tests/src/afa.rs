@@ -8,7 +8,8 @@ use crate::guarded::{ReadOnly, Writable, EDGES};
 
 pub mod run;
 
-mod interface {
+/// As `include/afa.h` declares them.
+pub mod interface {
     extern "C" {
         pub fn afa_read(image: *const u8, image_len: usize, head: *mut u64) -> u64;
         pub fn afa_accepts(

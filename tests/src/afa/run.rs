@@ -7,7 +7,8 @@ use crate::guarded::{Edge, ReadOnly, Untouchable, Writable, EDGES};
 use crate::tables::{Answer, Rooms, Tables};
 use std::slice;
 
-mod interface {
+/// As `include/afa.h` declares it.
+pub mod interface {
     extern "C" {
         pub fn afa_run(
             image: *const u8,

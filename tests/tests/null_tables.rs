@@ -1,0 +1,113 @@
+//! Null pointers where a length is 0, which `include/afa.h` allows: each answer is that on an empty
+//! slice.
+
+use afa_tests::afa::interface::{afa_accepts, afa_read};
+use afa_tests::afa::run::interface::afa_run;
+use afa_tests::image::{model_a, model_b, model_c, model_d};
+use afa_tests::machine;
+use afa_tests::tables::{Answer, Tables};
+use std::ptr::{null, null_mut};
+
+#[test]
+fn read() {
+    let mut head = [7; 5];
+    // SAFETY: what is null has no elements, and the head has five.
+    let number = unsafe { afa_read(null(), 0, head.as_mut_ptr()) };
+    assert_eq!((number, head), (20, [7; 5]));
+}
+
+#[test]
+fn accepts() {
+    for (model, number) in [(model_c(), 0), (model_d(), 1)] {
+        let image = model.image();
+        // SAFETY: what is null has no elements, and the image as many as it says.
+        let answered = unsafe { afa_accepts(image.as_ptr(), image.len(), null(), 0) };
+        assert_eq!(answered, number, "{model}, the empty word");
+    }
+    let word = [0, 1];
+    // SAFETY: what is null has no elements, and the word as many as it says.
+    unsafe {
+        assert_eq!(afa_accepts(null(), 0, word.as_ptr(), word.len()), 20);
+        assert_eq!(afa_accepts(null(), 0, null(), 0), 20);
+    }
+}
+
+/// The slice's pointer, or null if it is empty.
+fn pointer<T>(slice: &[T]) -> *const T {
+    match slice {
+        [] => null(),
+        _ => slice.as_ptr(),
+    }
+}
+
+fn pointer_mut<T>(slice: &mut [T]) -> *mut T {
+    match slice {
+        [] => null_mut(),
+        _ => slice.as_mut_ptr(),
+    }
+}
+
+/// A run with rooms of these lengths and these hints, each null if it is empty, against the machine.
+fn expect(image: &[u8], lengths: [usize; 4], hints: &[u64], allowance: u64, numbers: [u64; 5]) {
+    let [masks, levels, cases, symbols] = lengths;
+    let before = Tables {
+        masks: vec![9; masks],
+        levels: vec![9; levels],
+        cases: vec![9; cases],
+        symbols: vec![9; symbols],
+    };
+    let mut expected = before.clone();
+    let answer = machine::run(image, expected.lend(), hints, allowance);
+    assert_eq!(answer, Answer::of_numbers(numbers), "{lengths:?}");
+    let mut tables = before;
+    let mut counts = [7; 4];
+    // SAFETY: what is null has no elements, and the rest as many as it says.
+    let number = unsafe {
+        afa_run(
+            pointer(image),
+            image.len(),
+            pointer_mut(&mut tables.masks),
+            masks,
+            pointer_mut(&mut tables.levels),
+            levels,
+            pointer_mut(&mut tables.cases),
+            cases,
+            pointer_mut(&mut tables.symbols),
+            symbols,
+            pointer(hints),
+            hints.len(),
+            allowance,
+            counts.as_mut_ptr(),
+        )
+    };
+    let [steps, level, blockers, accepted] = counts;
+    let answered = [number, steps, level, blockers, accepted];
+    assert_eq!(answered, numbers, "{lengths:?}, {hints:?}");
+    assert_eq!(tables, expected, "{lengths:?}, {hints:?}");
+}
+
+#[test]
+fn run() {
+    let models = [model_a(), model_b(), model_c(), model_d()];
+    let [a, b, c, d] = models.map(|model| model.image());
+    let nothing = [0; 4];
+    expect(&[], nothing, &[], 100, [20, 0, 0, 0, 0]);
+    expect(&[], [4; 4], &[4], 100, [20, 0, 0, 0, 0]);
+    // No room at all: enough where no step is needed.
+    expect(&d, nothing, &[], 0, [1, 0, 0, 0, 0]);
+    expect(&d, nothing, &[4], u64::MAX, [1, 0, 0, 0, 0]);
+    expect(&a, nothing, &[], 0, [2, 0, 0, 0, 0]);
+    expect(&a, nothing, &[], 100, [4, 0, 0, 0, 0]);
+    expect(&a, [4, 4, 0, 0], &[], 100, [4, 0, 0, 0, 0]);
+    expect(&a, [0, 0, 4, 4], &[], 100, [3, 1, 1, 0, 0]);
+    expect(&a, [0, 0, 4, 4], &[2], 1, [2, 1, 1, 0, 0]);
+    // A word that is found before any block.
+    expect(&b, [0, 0, 1, 1], &[], 100, [1, 2, 1, 0, 0]);
+    // Hints alone.
+    expect(&a, [4; 4], &[], 100, [0, 3, 1, 1, 0]);
+    expect(&c, [4; 4], &[], 100, [1, 6, 2, 1, 0]);
+    // One table of a room.
+    for lengths in [[0, 4, 4, 4], [4, 0, 4, 4], [4, 4, 0, 4], [4, 4, 4, 0]] {
+        expect(&c, lengths, &[], 100, [30, 0, 0, 0, 0]);
+    }
+}
