@@ -10,9 +10,9 @@ use native.Mathlib.Decide.{ℕ-discrete}
 use native.Mathlib.Omega.{arith}
 use lib.Dec.{T, eqb, eqb→eq, eqb-refl}
 use Rattle.lists.specs.Tests.{_and_, choose}
-use Rattle.lists.specs.Lists.{_∈_, here, there, Each, firstOf}
+use Rattle.lists.specs.Lists.{_∈_, here, there, Each}
 use Rattle.lists.proofs.Tests.{is-true, and-left, and-right, and-both, choose-true}
-use Rattle.lists.proofs.Lists.{in-none, in-cases, first-of-none, first-of-some}
+use Rattle.lists.proofs.Lists.{in-none, in-cases, firstOf, first-of-none, first-of-some}
 use Rattle.masks.specs.Sets.{Member, member, subset, union, within}
 use Rattle.masks.proofs.Laws.{
   member-means,
@@ -30,7 +30,7 @@ use Rattle.automata.specs.Automaton.{Automaton, automatonOf, backward, t
 use Rattle.automata.specs.Acceptance.{Reaches, Steps, Run, stays, steps, Accepted}
 use Rattle.automata.specs.WordTest.{accepts}
 use Rattle.automata.proofs.BackwardSets.{Leads, HasRow, backward-members}
-use Rattle.automata.proofs.ValidImage.{valid-kept, valid-row}
+use Rattle.automata.proofs.ValidImage.{valid-kept, valid-rows}
 
 -- what the checks leave of the automaton that an image holds
 pub record Proper (A : Automaton) : Type 0 where
@@ -44,8 +44,8 @@ valid-proper image valid =
     record {
       initial-within = valid-kept image valid .initial-within;
       final-within = valid-kept image valid .final-within;
-      row-state = λ s l row m. valid-row image valid s l row m .0;
-      row-case = λ s l row m. valid-row image valid s l row m .1;
+      row-state = λ s l row m. valid-rows image valid s l row m .state-below;
+      row-case = λ s l row m. valid-rows image valid s l row m .case-within;
     }
 
 -- the union of the sets that f gives to the numbers below a bound
@@ -142,7 +142,8 @@ module _ (A : Automaton) where
       unfolding part choose
       part-member q p h = at (member q X) (λ t. member-means q X .0 t) h
         where
-          at : (b : Bool) → (T b → Member q X) → Member p (choose b (rowFor (A .rows s) Z q .case) 0) → Member q X × Member p (rowFor (A .rows s) Z q .case)
+          at : (b : Bool) → (T b → Member q X) → Member p (choose b (rowFor (A .rows s) Z q .case) 0)
+              → Member q X × Member p (rowFor (A .rows s) Z q .case)
           at true f k = (f tt, k)
           at false f k = absurd (empty-members p k)
 
@@ -162,7 +163,11 @@ module _ (A : Automaton) where
             record { from = r .from; inside = k .0; to = k .1 },
         λ h.
             union-below-members (A .states) part p .1
-            (record { from = h .from; below = within-members (A .states) X small (h .from) (h .inside); inside = member-part (h .from) p (h .inside) (h .to) }),
+            (record {
+              from = h .from;
+              below = within-members (A .states) X small (h .from) (h .inside);
+              inside = member-part (h .from) p (h .inside) (h .to);
+            }),
       )
 
       step-to : Steps A s X reached
@@ -196,21 +201,26 @@ module _ (A : Automaton) where
       run : Run A word X end
       final : T (subset end (A .final))
 
-    inside-run : (word : List ℕ) → Each (λ s. s < A .symbols) word → (X : ℕ) → T (within (A .states) X) → T (subset X (takenBack A word (A .final))) → FinalRun word X
+    inside-run : (word : List ℕ) → Each (λ s. s < A .symbols) word → (X : ℕ) → T (within (A .states) X) → T (subset X (takenBack A word (A .final)))
+        → FinalRun word X
     unfolding takenBack
     inside-run [] symbols X small inside = record { end = X; run = stays; final = inside }
     inside-run (s ∷ word) symbols X small inside =
         let Z = takenBack A word (A .final) in
         let known : s < A .symbols = symbols s (here refl) in
-        let rest = inside-run word (λ t m. symbols t (there m)) (reached s X Z known small inside) (reached-within s X Z known small inside) (reached-inside s X Z known small inside) in
+        let rest =
+        inside-run word (λ t m. symbols t (there m)) (reached s X Z known small inside) (reached-within s X Z known small inside)
+        (reached-inside s X Z known small inside) in
         record { end = rest .end; run = steps (step-to s X Z known small inside) (rest .run); final = rest .final }
 
     -- a word is accepted by runs exactly if its symbols are the automaton's and F, taken back by them, contains I
     pub accepted-means : (word : List ℕ) → Accepted A word ↔ (Each (λ s. s < A .symbols) word × T (accepts A word))
     unfolding accepts
     accepted-means word = (
-      λ a.
-          (run-symbols (a .run), subset-transitive (A .initial) (a .start) (takenBack A word (A .final)) (a .contains-initial) (run-inside (a .run) (a .final))),
+      λ a. (
+        run-symbols (a .run),
+        subset-transitive (A .initial) (a .start) (takenBack A word (A .final)) (a .contains-initial) (run-inside (a .run) (a .final)),
+      ),
       λ h.
           let r = inside-run word (h .0) (A .initial) (proper .initial-within) (h .1) in
           record {

@@ -14,6 +14,7 @@ use Rattle.lists.proofs.Tests.{holds, fails, choose-true, choose-false}
 use Rattle.lists.proofs.Lists.{in-none, in-cases}
 use Rattle.masks.specs.Sets.{Member, subset, union, single, within}
 use Rattle.masks.proofs.Laws.{
+  subset-reflexive,
   subset-transitive,
   subset-antisymmetric,
   members-subset,
@@ -23,9 +24,9 @@ use Rattle.masks.proofs.Laws.{
   members-within,
 }
 use Rattle.automata.specs.Bytes.{byteAt}
-use Rattle.automata.specs.Image.{Row, Valid, symbolsOf, offsetOf, sizeOf, rowAt, rowsFrom, rowsOf, Span}
+use Rattle.automata.specs.Image.{Row, Valid, symbolsOf, offsetOf, sizeOf, rowAt, rowsFrom, rowsOf}
 use Rattle.automata.specs.Automaton.{Automaton, withRow, withRows, backward, takenBack, SameAutomaton}
-use Rattle.automata.proofs.ValidImage.{valid-kept, span-in, span-nines, pair-in, valid-row}
+use Rattle.automata.proofs.ValidImage.{valid-kept, span-in, span-nines, pair-in, rows-of-symbol, valid-rows}
 
 -- the row is one of state q, and its case is inside X
 pub record Leads (row : Row) (q X : ℕ) : Type 0 where
@@ -105,32 +106,27 @@ backward-members rows X q = (λ h. to (with-rows-members X 0 rows q .0 h), λ h.
     to (inl i) = absurd (empty-members q i)
     to (inr h) = h
 
--- a larger case has a larger backward set
-pub backward-monotone : (rows : List Row) (X Y : ℕ) → T (subset X Y) → T (subset (backward rows X) (backward rows Y))
-backward-monotone rows X Y h =
-    members-subset (backward rows X) (backward rows Y) (λ q i. backward-members rows Y q .1 (more q (backward-members rows X q .0 i)))
+-- more rows and a larger case: a larger backward set
+backward-grows : (rows others : List Row) (X Y : ℕ) → Each (λ row. row ∈ others) rows → T (subset X Y) → T (subset (backward rows X) (backward others Y))
+backward-grows rows others X Y f h =
+    members-subset (backward rows X) (backward others Y) (λ q i. backward-members others Y q .1 (more q (backward-members rows X q .0 i)))
   where
-    more : (q : ℕ) → HasRow rows q X → HasRow rows q Y
+    more : (q : ℕ) → HasRow rows q X → HasRow others q Y
     more q r =
         record {
           row = r .row;
-          listed = r .listed;
+          listed = f (r .row) (r .listed);
           leads = record { state = r .leads .state; inside = subset-transitive (r .row .case) X Y (r .leads .inside) h };
         }
 
--- more rows, more states
-backward-more : (rows others : List Row) (X : ℕ) → ((row : Row) → row ∈ rows → row ∈ others) → T (subset (backward rows X) (backward others X))
-backward-more rows others X f =
-    members-subset (backward rows X) (backward others X) (λ q i. backward-members others X q .1 (more q (backward-members rows X q .0 i)))
-  where
-    more : (q : ℕ) → HasRow rows q X → HasRow others q X
-    more q r = record { row = r .row; listed = f (r .row) (r .listed); leads = r .leads }
+pub backward-monotone : (rows : List Row) (X Y : ℕ) → T (subset X Y) → T (subset (backward rows X) (backward rows Y))
+backward-monotone rows X Y h = backward-grows rows rows X Y (λ row m. m) h
 
 -- the same rows, in any order and however often each stands: the same backward set
 pub backward-same : (rows others : List Row) (X : ℕ) → ((row : Row) → row ∈ rows ↔ row ∈ others) → backward rows X ≡ backward others X
 backward-same rows others X f =
-    subset-antisymmetric (backward rows X) (backward others X) (backward-more rows others X (λ row. f row .0))
-    (backward-more others rows X (λ row. f row .1))
+    subset-antisymmetric (backward rows X) (backward others X) (backward-grows rows others X X (λ row. f row .0) (subset-reflexive X))
+    (backward-grows others rows X X (λ row. f row .1) (subset-reflexive X))
 
 -- a backward set has only states of rows
 pub backward-within : (n : ℕ) (rows : List Row) (X : ℕ) → Each (λ row. row .state < n) rows → T (within n (backward rows X))
@@ -140,7 +136,8 @@ backward-within n rows X f = members-within n (backward rows X) (λ q i. below q
     below q r = subst (λ (x : ℕ). x < n) (r .leads .state) (f (r .row) (r .listed))
 
 -- one automaton, one result of taking back
-pub taken-back-same : (A B : Automaton) → SameAutomaton A B → (word : List ℕ) → Each (λ s. s < A .symbols) word → (X : ℕ) → takenBack A word X ≡ takenBack B word X
+pub taken-back-same : (A B : Automaton) → SameAutomaton A B → (word : List ℕ) → Each (λ s. s < A .symbols) word → (X : ℕ)
+    → takenBack A word X ≡ takenBack B word X
 unfolding takenBack
 taken-back-same A B same [] symbols X = refl
 taken-back-same A B same (s ∷ word) symbols X =
@@ -148,73 +145,76 @@ taken-back-same A B same (s ∷ word) symbols X =
     ∙ ap (backward (B .rows s)) (taken-back-same A B same word (λ t m. symbols t (there m)) X)
 
 -- one row, by the test of its case
-pub row-tested : (X set : ℕ) (row : Row) (case result : ℕ) (b : Bool) → case ≡ row .case → b ≡ subset case X → result ≡ choose b (union set (single (row .state))) set → result ≡ withRow X set row
+pub row-tested : (X set : ℕ) (row : Row) (case result : ℕ) (b : Bool) → case ≡ row .case → b ≡ subset case X
+    → result ≡ choose b (union set (single (row .state))) set → result ≡ withRow X set row
 unfolding withRow
 row-tested X set row case result b c e r = r ∙ ap (λ (x : Bool). choose x (union set (single (row .state))) set) (e ∙ ap (λ (x : ℕ). subset x X) c)
 
--- the walk over the rows from start to end, before the row at `at`: the states gathered, and what the rows that are left add to them
-pub record RowsAhead (image : List ℕ) (start end X set at : ℕ) : Type 0 where
-  pub bound : at ≤ end
-  pub fits : end ≤ length image
+-- whole rows stand from a place to the end, and each row's state fits a mask
+pub record Span (image : List ℕ) (at end : ℕ) : Type 0 where
+  pub ordered : at ≤ end
+  pub inside : end ≤ length image
   pub nines : (end - at) % 9 ≡ 0
   pub states : Each (λ row. row .state < 64) (rowsFrom image ((end - at) / 9) at)
+
+-- the walk over the rows from start to end, before the row at `at`: the rows that are left, and what they add to the states gathered
+pub record RowsAhead (image : List ℕ) (start end X at set : ℕ) : Type 0 where
+  pub span : Span image at end
   pub rest : withRows X set (rowsFrom image ((end - at) / 9) at) ≡ withRows X 0 (rowsFrom image ((end - start) / 9) start)
 
-pub walk-starts : {image : List ℕ} {start end X : ℕ} → Span image start end → RowsAhead image start end X 0 start
-walk-starts span =
-    record { bound = span .ordered; fits = span .inside; nines = span .nines; states = span .states; rest = refl }
+module _ {image : List ℕ} {start end X at set : ℕ} (ahead : RowsAhead image start end X at set) where
+  one-more : at < end → at + 9 ≤ end
+  one-more l = omega (arith, ahead .span .nines)
 
-module _ {image : List ℕ} {start end X set at : ℕ} (ahead : RowsAhead image start end X set at) where
-  pub one-more : at < end → at + 9 ≤ end
-  one-more l = omega (arith, ahead .nines)
+  pub row-inside : at < end → at + 9 ≤ length image
+  row-inside l = omega (arith, one-more l, ahead .span .inside)
 
   first-row : at < end → rowsFrom image ((end - at) / 9) at ≡ rowAt image at ∷ rowsFrom image ((end - (at + 9)) / 9) (at + 9)
   unfolding rowsFrom
-  first-row l = let e : (end - at) / 9 ≡ suc ((end - (at + 9)) / 9) = omega (arith, ahead .nines) in rw e
+  first-row l = let e : (end - at) / 9 ≡ suc ((end - (at + 9)) / 9) = omega (arith, ahead .span .nines) in rw e
 
-  pub walk-state : at < end → byteAt image at < 64
-  walk-state l = ahead .states (rowAt image at) (rw (first-row l) (here refl))
+  pub state-fits : at < end → byteAt image at < 64
+  state-fits l = ahead .span .states (rowAt image at) (rw (first-row l) (here refl))
 
-  pub walk-next : (more : ℕ) → at < end → more ≡ withRow X set (rowAt image at) → RowsAhead image start end X more (at + 9)
+  pub walk-goes : (more : ℕ) → at < end → more ≡ withRow X set (rowAt image at) → RowsAhead image start end X (at + 9) more
   unfolding withRows
-  walk-next more l e =
+  walk-goes more l e =
       record {
-        bound = one-more l;
-        fits = ahead .fits;
-        nines = omega (arith, ahead .nines);
-        states = λ row m. ahead .states row (rw (first-row l) (there m));
+        span = record {
+          ordered = one-more l;
+          inside = ahead .span .inside;
+          nines = omega (arith, ahead .span .nines);
+          states = λ row m. ahead .span .states row (rw (first-row l) (there m));
+        };
         rest = rw e (rw (first-row l) at (ahead .rest));
       }
 
-  pub walk-ends : end ≤ at → set ≡ withRows X 0 (rowsFrom image ((end - start) / 9) start)
-  unfolding withRows rowsFrom
-  walk-ends l = let e : (end - at) / 9 ≡ 0 = omega (arith, ahead .bound) in rw e at (ahead .rest)
-
--- the span of a symbol of a valid image
+-- the walk over the rows of a symbol of a valid image
 module _ (image : List ℕ) (s : ℕ) (asked : Valid image × (s < symbolsOf image)) where
-  pub offset-readable : 20 + 8 * s + 4 ≤ length image
-  offset-readable = omega (arith, pair-in image (asked .0) s (asked .1))
-
-  pub size-readable : 24 + 8 * s + 4 ≤ length image
-  size-readable = omega (arith, pair-in image (asked .0) s (asked .1))
+  pub pair-readable : 28 + 8 * s ≤ length image
+  pair-readable = pair-in image (asked .0) s (asked .1)
 
   module _ (start size : ℕ) (eo : start ≡ offsetOf image s) (ez : size ≡ sizeOf image s) where
-    whole-rows : (start + size - start) / 9 ≡ sizeOf image s / 9
-    whole-rows = omega (arith, ez)
+    span-rows : rowsFrom image ((start + size - start) / 9) start ≡ rowsOf image s
+    span-rows = let count : (start + size - start) / 9 ≡ sizeOf image s / 9 = omega (arith, ez) in rw (rows-of-symbol image s (asked .1), count, eo)
 
-    pub span-whole : Span image start (start + size)
-    unfolding rowsOf
-    span-whole =
+    pub walk-starts : (X : ℕ) → RowsAhead image start (start + size) X start 0
+    walk-starts X =
         record {
-          ordered = omega arith;
-          inside = omega (arith, span-in image (asked .0) s (asked .1));
-          nines = omega (arith, span-nines image (asked .0) s (asked .1));
-          states = λ row m.
-              let fits = valid-kept image (asked .0) .states-fit in
-              let h = valid-row image (asked .0) s (asked .1) row (rw (← eo, ← whole-rows) m) in
-              omega arith;
+          span = record {
+            ordered = omega arith;
+            inside = omega (arith, span-in image (asked .0) s (asked .1));
+            nines = omega (arith, span-nines image (asked .0) s (asked .1));
+            states = λ row m.
+                let fits = valid-kept image (asked .0) .states-fit in
+                let below = valid-rows image (asked .0) s (asked .1) row (rw span-rows at m) .state-below in
+                omega arith;
+          };
+          rest = refl;
         }
 
-    pub span-backward : (X r : ℕ) → r ≡ withRows X 0 (rowsFrom image ((start + size - start) / 9) start) → r ≡ backward (rowsOf image s) X
-    unfolding backward rowsOf
-    span-backward X r e = e ∙ rw (whole-rows, eo)
+    pub walk-ends : {X at set : ℕ} → RowsAhead image start (start + size) X at set → start + size ≤ at → set ≡ backward (rowsOf image s) X
+    unfolding backward withRows rowsFrom
+    walk-ends {X} {at} ahead l =
+        let none : (start + size - at) / 9 ≡ 0 = omega arith in
+        (rw none at (ahead .rest)) ∙ ap (withRows X 0) span-rows

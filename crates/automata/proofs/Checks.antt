@@ -12,83 +12,69 @@ use lib.Dec.{eqb, ltb}
 use lib.ListN.{length}
 use Rattle.lists.specs.Tests.{_and_, _or_, neg}
 use Rattle.lists.specs.Lists.{eachFrom}
+use Rattle.lists.proofs.Tests.{neg-is-not}
 use Rattle.lists.proofs.Lists.{each-from-fails, each-from-holds, each-from-ends}
 use Rattle.masks.specs.Sets.{within}
-use Rattle.automata.specs.Image.{
-  statesOf,
-  symbolsOf,
-  rowCountOf,
-  initialOf,
-  finalOf,
-  offsetOf,
-  sizeOf,
-  rowsStart,
-  spanStart,
-  pairHolds,
-  pairsHold,
-  rowAt,
-  rowHolds,
-  rowsHold,
-  outside,
-  check,
-  checkImage,
-}
+use Rattle.automata.specs.Image.{statesOf, symbolsOf, rowCountOf, initialOf, finalOf, offsetOf, sizeOf, rowAt}
+use Rattle.automata.specs.Image.{spanStart, pairHolds, pairsHold, rowHolds, rowsHold, outside, check, checkImage}
 
--- the loop over the pairs, before pair s: where its span is to start, and what is still to be tested
-pub record PairsLeft (image : List ℕ) (symbols start s : ℕ) : Type 0 where
-  pub count : symbols ≡ symbolsOf image
-  pub bound : s ≤ symbols
+-- the loop over the pairs, before that of symbol s: where its span is to start, and what is still to be tested
+pub record PairsLeft (image : List ℕ) (start s : ℕ) : Type 0 where
+  pub bound : s ≤ symbolsOf image
   pub begins : start ≡ spanStart image s
-  pub rest : eachFrom (pairHolds image) (symbols - s) s ≡ eachFrom (pairHolds image) symbols 0
+  pub rest : eachFrom (pairHolds image) (symbolsOf image - s) s ≡ eachFrom (pairHolds image) (symbolsOf image) 0
 
-pub pairs-none : {image : List ℕ} {symbols : ℕ} → symbols ≡ symbolsOf image → PairsLeft image symbols (20 + 8 * symbols) 0
+pub pairs-none : {image : List ℕ} {symbols : ℕ} → symbols ≡ symbolsOf image → PairsLeft image (20 + 8 * symbols) 0
 unfolding spanStart
-pairs-none {image} {symbols} e = record {
-  count = e;
+pairs-none {image} e = record {
   bound = omega arith;
   begins = ap (λ (k : ℕ). 20 + 8 * k) e;
-  rest = ap (λ (k : ℕ). eachFrom (pairHolds image) k 0) (sub-zero symbols);
+  rest = ap (λ (k : ℕ). eachFrom (pairHolds image) k 0) (sub-zero (symbolsOf image));
 }
 
-module _ {image : List ℕ} {symbols start s : ℕ} (left : PairsLeft image symbols start s) where
-  pairs-fail : s < symbols → pairHolds image s ≡ false → false ≡ pairsHold image
+module _ {image : List ℕ} {start s : ℕ} (left : PairsLeft image start s) where
+  pairs-fail : s < symbolsOf image → pairHolds image s ≡ false → false ≡ pairsHold image
   unfolding pairsHold _and_
-  pairs-fail l e =
-      rw (← left .count, ← left .rest, each-from-fails (pairHolds image) symbols s l e)
+  pairs-fail l e = rw (← left .rest, each-from-fails (pairHolds image) (symbolsOf image) s l e)
 
-  pub pair-offset : (offset : ℕ) → s < symbols → offset ≡ offsetOf image s → (offset ≡ start → ⊥) → false ≡ pairsHold image
-  unfolding pairHolds _and_
-  pair-offset offset l e n = pairs-fail l (rw (← e, ← left .begins, ne-eqb offset start n))
+  module _ (offset : ℕ) (l : s < symbolsOf image) (e : offset ≡ offsetOf image s) where
+    pub pair-offset : (offset ≡ start → ⊥) → false ≡ pairsHold image
+    unfolding pairHolds _and_
+    pair-offset n = pairs-fail l (rw (← e, ← left .begins, ne-eqb offset start n))
 
-  pub pair-size : (offset size : ℕ) → s < symbols → offset ≡ offsetOf image s → offset ≡ start → size ≡ sizeOf image s → (size % 9 ≡ 0 → ⊥) → false ≡ pairsHold image
-  unfolding pairHolds _and_
-  pair-size offset size l e q z n = pairs-fail l (rw (← e, ← left .begins, eq-eqb offset start q, ← z, ne-eqb (size % 9) 0 n))
+    module _ (size : ℕ) (q : offset ≡ start) (z : size ≡ sizeOf image s) where
+      pair-is : pairHolds image s ≡ eqb (size % 9) 0
+      unfolding pairHolds _and_
+      pair-is = rw (← e, ← left .begins, eq-eqb offset start q, ← z)
 
-  pub pair-next : (offset size : ℕ) → s < symbols → offset ≡ offsetOf image s → offset ≡ start → size ≡ sizeOf image s → size % 9 ≡ 0 → PairsLeft image symbols (offset + size) (s + 1)
-  unfolding pairHolds _and_ spanStart
-  pair-next offset size l e q z n =
-      let test : pairHolds image s ≡ true = rw (← e, ← left .begins, eq-eqb offset start q, ← z, eq-eqb (size % 9) 0 n) in
-      record {
-        count = left .count;
-        bound = omega arith;
-        begins = rw (add-one, e, z);
-        rest = sym (each-from-holds (pairHolds image) symbols s l test) ∙ left .rest;
-      }
+      pub pair-size : (size % 9 ≡ 0 → ⊥) → false ≡ pairsHold image
+      pair-size n = pairs-fail l (pair-is ∙ ne-eqb (size % 9) 0 n)
 
-  pub pairs-end : symbols ≤ s → eqb start (length image) ≡ pairsHold image
+      pub pair-next : size % 9 ≡ 0 → PairsLeft image (offset + size) (s + 1)
+      unfolding spanStart
+      pair-next n =
+          record {
+            bound = omega arith;
+            begins = rw (add-one, e, z);
+            rest = sym (each-from-holds (pairHolds image) (symbolsOf image) s l (pair-is ∙ eq-eqb (size % 9) 0 n)) ∙ left .rest;
+          }
+
+  pub pairs-end : symbolsOf image ≤ s → eqb start (length image) ≡ pairsHold image
   unfolding pairsHold _and_
   pairs-end l =
-      let e : s ≡ symbols = omega (arith, left .bound) in
-      rw (← left .count, ← left .rest, each-from-ends (pairHolds image) symbols s l, ← e, ← left .begins)
+      let e : s ≡ symbolsOf image = omega (arith, left .bound) in
+      rw (← left .rest, each-from-ends (pairHolds image) (symbolsOf image) s l, ← e, ← left .begins)
 
 -- one row, by the tests of its state and its case
-pub row-state : (image : List ℕ) (i at states symbols : ℕ) → symbols ≡ symbolsOf image → at ≡ 20 + 8 * symbols + 9 * i → statesOf image ≤ rowAt image at .state → false ≡ rowHolds image i
-unfolding rowHolds _and_
-row-state image i at states symbols k e l = rw (← k, ← e, le-ltb _ _ l)
+module _ (image : List ℕ) (i at symbols : ℕ) (k : symbols ≡ symbolsOf image) (e : at ≡ 20 + 8 * symbols + 9 * i) where
+  pub row-state : statesOf image ≤ rowAt image at .state → false ≡ rowHolds image i
+  unfolding rowHolds _and_
+  row-state l = rw (← k, ← e, le-ltb _ _ l)
 
-pub row-case : (image : List ℕ) (i at symbols case : ℕ) (r : Bool) → symbols ≡ symbolsOf image → at ≡ 20 + 8 * symbols + 9 * i → rowAt image at .state < statesOf image → case ≡ rowAt image at .case → r ≡ within (statesOf image) case → r ≡ rowHolds image i
-unfolding rowHolds _and_
-row-case image i at symbols case r k e l q w = rw (← k, ← e, lt-ltb _ _ l, ← q, w)
+  pub row-case : (case : ℕ) (r : Bool) → rowAt image at .state < statesOf image → case ≡ rowAt image at .case → r ≡ within (statesOf image) case
+      → r ≡ rowHolds image i
+  unfolding rowHolds _and_
+  row-case case r l q w = rw (← k, ← e, lt-ltb _ _ l, ← q, w)
 
 -- the loop over the rows, before row i
 pub record RowsLeft (image : List ℕ) (rows i : ℕ) : Type 0 where
@@ -135,15 +121,8 @@ check-passed : {b : Bool} {answer : ℕ} (number later : ℕ) → b ≡ false �
 unfolding check
 check-passed number later e a = rw e a
 
-neg-of-not : (b : Bool) → not b ≡ true → neg b ≡ true
-unfolding neg
-neg-of-not true e = e
-neg-of-not false e = e
-
-neg-of-yes : (b : Bool) → not b ≡ false → neg b ≡ false
-unfolding neg
-neg-of-yes true e = e
-neg-of-yes false e = e
+neg-by-not : (b : Bool) {r : Bool} → not b ≡ r → neg b ≡ r
+neg-by-not b e = sym (neg-is-not b) ∙ e
 
 -- what the checks from each number on answer
 module _ (image : List ℕ) where
@@ -217,34 +196,34 @@ module _ (image : List ℕ) where
 
             pub refuse25 : (d : Bool) → d ≡ within (statesOf image) initial → not d ≡ true → 25 ≡ checkImage image
             unfolding from25 _or_
-            refuse25 d e t = past24 (check-applies 25 (from26 image) (rw (← ei, ← e, neg-of-not d t)))
+            refuse25 d e t = past24 (check-applies 25 (from26 image) (rw (← ei, ← e, neg-by-not d t)))
 
             module _ (d : Bool) (ed : d ≡ within (statesOf image) initial) (td : not d ≡ false) (finals : ℕ) (ef : finals ≡ finalOf image) where
               pub refuse25′ : (f : Bool) → f ≡ within (statesOf image) finals → not f ≡ true → 25 ≡ checkImage image
               unfolding from25 _or_
-              refuse25′ f e t = past24 (check-applies 25 (from26 image) (rw (← ei, ← ed, neg-of-yes d td, ← ef, ← e, neg-of-not f t)))
+              refuse25′ f e t = past24 (check-applies 25 (from26 image) (rw (← ei, ← ed, neg-by-not d td, ← ef, ← e, neg-by-not f t)))
 
               module _ (f : Bool) (eg : f ≡ within (statesOf image) finals) (tf : not f ≡ false) where
                 past25 : {answer : ℕ} → answer ≡ from26 image → answer ≡ checkImage image
                 unfolding from25 _or_
-                past25 e = past24 (check-passed 25 (from26 image) (rw (← ei, ← ed, neg-of-yes d td, ← ef, ← eg, neg-of-yes f tf)) e)
+                past25 e = past24 (check-passed 25 (from26 image) (rw (← ei, ← ed, neg-by-not d td, ← ef, ← eg, neg-by-not f tf)) e)
 
                 pub refuse26 : (p : Bool) → p ≡ pairsHold image → not p ≡ true → 26 ≡ checkImage image
                 unfolding from26
-                refuse26 p e t = past25 (check-applies 26 (from27 image) (rw (← e) (neg-of-not p t)))
+                refuse26 p e t = past25 (check-applies 26 (from27 image) (rw (← e) (neg-by-not p t)))
 
                 module _ (p : Bool) (ep : p ≡ pairsHold image) (tp : not p ≡ false) where
                   past26 : {answer : ℕ} → answer ≡ from27 image → answer ≡ checkImage image
                   unfolding from26
-                  past26 e = past25 (check-passed 26 (from27 image) (rw (← ep) (neg-of-yes p tp)) e)
+                  past26 e = past25 (check-passed 26 (from27 image) (rw (← ep) (neg-by-not p tp)) e)
 
                   pub refuse27 : (q : Bool) → q ≡ rowsHold image → not q ≡ true → 27 ≡ checkImage image
                   unfolding from27
-                  refuse27 q e t = past26 (check-applies 27 0 (rw (← e) (neg-of-not q t)))
+                  refuse27 q e t = past26 (check-applies 27 0 (rw (← e) (neg-by-not q t)))
 
                   pub refuse-none : (q : Bool) → q ≡ rowsHold image → not q ≡ false → 0 ≡ checkImage image
                   unfolding from27
-                  refuse-none q e t = past26 (check-passed 27 0 (rw (← e) (neg-of-yes q t)) refl)
+                  refuse-none q e t = past26 (check-passed 27 0 (rw (← e) (neg-by-not q t)) refl)
 
 -- the checks answer 0 or a number from 20 to 27
 Answer : ℕ → Type 0

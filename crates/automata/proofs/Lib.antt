@@ -1,6 +1,7 @@
 -- Laws that the proofs of functions cite, by subject.
 pub mod Checks
 pub mod ValidImage
+pub mod Reading
 pub mod BackwardSets
 pub mod AcceptedWords
 pub mod WordTests

@@ -1,44 +1,20 @@
--- What an image that no check refuses keeps: its sizes, its spans, its rows; and what reading it answers. Assumes nothing.
+-- What an image that no check refuses keeps: its sizes, its spans, its rows. Assumes nothing.
 use Prim.Native.Nat.{ℕ, zero, suc, _+_, _-_, _*_, _/_, _%_, _≤_, _<_}
-use mathlib.Core.Path.{_≡_, refl, sym, subst, _∙_}
+use mathlib.Core.Path.{_≡_, refl, subst}
 use mathlib.Core.Bool.{Bool, true, false}
-use mathlib.Core.List.{List}
-use mathlib.Core.Logic.{_⊎_, inl, inr}
+use mathlib.Core.List.{List, []}
 use native.Mathlib.Nat.{le-of-eq}
 use native.Mathlib.Omega.{arith}
 use lib.Dec.{T, eqb, ltb, eqb→eq, ltb→lt}
-use borrow.Author.Tests.{eqb-false, ltb-false}
+use borrow.Author.Tests.{eqb-false, ltb-false, lt-ltb, le-ltb}
 use lib.ListN.{length}
 use Rattle.lists.specs.Tests.{_and_, _or_}
-use Rattle.lists.specs.Lists.{_∈_}
-use Rattle.lists.proofs.Tests.{is-false, and-left, and-right, or-left, or-right, neg-neg}
-use Rattle.lists.proofs.Lists.{in-none, in-cases, each-from-at}
+use Rattle.lists.specs.Lists.{Each}
+use Rattle.lists.proofs.Tests.{is-false, and-left, and-right, or-left, or-right, neg-neg, choose-true, choose-false}
+use Rattle.lists.proofs.Lists.{in-none, each-more, each-from-at}
 use Rattle.masks.specs.Sets.{within}
-use Rattle.automata.specs.Image.{
-  Row,
-  Valid,
-  statesOf,
-  symbolsOf,
-  rowCountOf,
-  initialOf,
-  finalOf,
-  offsetOf,
-  sizeOf,
-  rowsStart,
-  spanStart,
-  pairHolds,
-  pairsHold,
-  rowAt,
-  rowsFrom,
-  rowsOf,
-  rowHolds,
-  rowsHold,
-  outside,
-  check,
-  checkImage,
-}
-use Rattle.automata.specs.Answers.{readImage}
-use Rattle.automata.specs.declared.image.Image.the-variants as Answer
+use Rattle.automata.specs.Image.{Row, Valid, statesOf, symbolsOf, rowCountOf, initialOf, finalOf, offsetOf, sizeOf}
+use Rattle.automata.specs.Image.{rowsStart, spanStart, pairHolds, pairsHold, rowAt, rowsFrom, rowsOf, rowHolds, rowsHold, outside, check, checkImage}
 
 -- what the checks leave of an image that they do not refuse
 pub record Kept (image : List ℕ) : Type 0 where
@@ -53,6 +29,11 @@ pub record Kept (image : List ℕ) : Type 0 where
   pub final-within : T (within (statesOf image) (finalOf image))
   pub pairs : T (pairsHold image)
   pub rows : T (rowsHold image)
+
+-- what they leave of a row
+pub record RowKept (states : ℕ) (row : Row) : Type 0 where
+  pub state-below : row .state < states
+  pub case-within : T (within states (row .case))
 
 -- a check that did not apply
 passed : (b : Bool) (number later : ℕ) → check b (suc number) later ≡ 0 → (T b → ⊥) × (later ≡ 0)
@@ -90,6 +71,16 @@ valid-kept image valid =
       pairs = neg-neg _ (p26 .0);
       rows = neg-neg _ (p27 .0);
     }
+
+-- the rows of a symbol are those of its span; a number that is no symbol has none
+module _ (image : List ℕ) (s : ℕ) where
+  pub rows-of-symbol : s < symbolsOf image → rowsOf image s ≡ rowsFrom image (sizeOf image s / 9) (offsetOf image s)
+  unfolding rowsOf
+  rows-of-symbol l = choose-true _ _ (lt-ltb _ _ l)
+
+  pub rows-of-none : symbolsOf image ≤ s → rowsOf image s ≡ []
+  unfolding rowsOf
+  rows-of-none l = choose-false _ _ (le-ltb _ _ l)
 
 module _ (image : List ℕ) (valid : Valid image) where
   kept : Kept image
@@ -142,45 +133,25 @@ module _ (image : List ℕ) (valid : Valid image) where
         each-from-at (rowHolds image) (rowCountOf image) 0 (kept .rows) ((at - rowsStart image) / 9) (omega arith)
         (omega (arith, kept .whole))
 
-    row-at-holds : (at : ℕ) → rowsStart image ≤ at → (at - rowsStart image) % 9 ≡ 0 → at + 9 ≤ length image
-        → (rowAt image at .state < statesOf image) × T (within (statesOf image) (rowAt image at .case))
+    row-at-kept : (at : ℕ) → rowsStart image ≤ at → (at - rowsStart image) % 9 ≡ 0 → at + 9 ≤ length image → RowKept (statesOf image) (rowAt image at)
     unfolding rowHolds
-    row-at-holds at l n h =
+    row-at-kept at l n h =
         let e : rowsStart image + 9 * ((at - rowsStart image) / 9) ≡ at = omega arith in
         let t = row-holds at l n h in
-        (subst (λ (x : ℕ). rowAt image x .state < statesOf image) e (ltb→lt _ _ (and-left _ _ t)), subst (λ (x : ℕ). T (within (statesOf image) (rowAt image x .case))) e (and-right _ _ t))
+        subst (λ (x : ℕ). RowKept (statesOf image) (rowAt image x)) e
+        (record { state-below = ltb→lt _ _ (and-left _ _ t); case-within = and-right _ _ t })
 
-    rows-hold : (count at : ℕ) → rowsStart image ≤ at → (at - rowsStart image) % 9 ≡ 0 → at + 9 * count ≤ length image → (row : Row) → row ∈ rowsFrom image count at
-        → (row .state < statesOf image) × T (within (statesOf image) (row .case))
+    rows-kept : (count at : ℕ) → rowsStart image ≤ at → (at - rowsStart image) % 9 ≡ 0 → at + 9 * count ≤ length image
+        → Each (RowKept (statesOf image)) (rowsFrom image count at)
     unfolding rowsFrom
-    rows-hold zero at l n h row m = absurd (in-none m)
-    rows-hold (suc count) at l n h row m =
-        cases (λ k. rows-hold count (at + 9) (omega arith) (omega arith) (omega arith) row k) (in-cases m)
-      where
-        cases : (row ∈ rowsFrom image count (at + 9) → (row .state < statesOf image) × T (within (statesOf image) (row .case)))
-            → (row ≡ rowAt image at) ⊎ row ∈ rowsFrom image count (at + 9) → (row .state < statesOf image) × T (within (statesOf image) (row .case))
-        cases rec (inl e) = rw e (row-at-holds at l n (omega arith))
-        cases rec (inr k) = rec k
+    rows-kept zero at l n h = λ row m. absurd (in-none m)
+    rows-kept (suc count) at l n h =
+        each-more (row-at-kept at l n (omega arith)) (rows-kept count (at + 9) (omega arith) (omega arith) (omega arith))
 
     -- each row of a symbol has a state below n, and no bit of its case at n or above
-    pub valid-row : (row : Row) → row ∈ rowsOf image s → (row .state < statesOf image) × T (within (statesOf image) (row .case))
-    unfolding rowsOf
-    valid-row row m =
+    pub valid-rows : Each (RowKept (statesOf image)) (rowsOf image s)
+    valid-rows =
         let h = spans-nine s (omega arith) in
         let e = span-begins s symbol in
-        rows-hold (sizeOf image s / 9) (offsetOf image s) (omega arith) (omega arith) (omega (arith, span-in)) row m
-
--- reading: the head or the number, by what the checks answer
-pub read-refused : (image : List ℕ) (number : ℕ) → number ≡ checkImage image → (number ≡ 0 → ⊥) → Answer.Refused number ≡ readImage image
-unfolding readImage
-read-refused image zero e n = absurd (n refl)
-read-refused image (suc number) e n = rw (← e)
-
-pub read-valid : (image : List ℕ) (number rows initial finals : ℕ) → number ≡ checkImage image → number ≡ 0 → rows ≡ rowCountOf image → initial ≡ initialOf image → finals ≡ finalOf image
-    → Answer.Valid (record { states = statesOf image; symbols = symbolsOf image; rows = rows; initial = initial; finals = finals }) ≡ readImage image
-unfolding readImage
-read-valid image number rows initial finals e z er ei ef = rw (← e, z, er, ei, ef)
-
--- an image with no refusing number has its first 20 bytes
-pub head-in : (image : List ℕ) (number at : ℕ) → number ≡ checkImage image → number ≡ 0 → at ≤ 20 → at ≤ length image
-head-in image number at e z l = omega (arith, valid-kept image (sym e ∙ z) .long)
+        rw (rows-of-symbol image s symbol)
+        (rows-kept (sizeOf image s / 9) (offsetOf image s) (omega arith) (omega arith) (omega (arith, span-in)))

@@ -79,19 +79,14 @@ unfolding readWith
 is-refused image zero refused e = let z : _≡_ {A = ℕ} 0 1 = cc in absurd (omega arith)
 is-refused image (suc number) refused e = (cc, omega arith)
 
-module _ (image : List ℕ) (answer : Image) (read : answer ≡ readImage image) where
-  module _ (head : Head) (e : answer ≡ Answer.Valid head) where
-    pub answer-valid : Valid image
-    unfolding readImage
-    answer-valid = is-valid image (checkImage image) head (sym read ∙ e) .0
-
-    pub answer-head : head ≡ headOf image
-    unfolding readImage
-    answer-head = is-valid image (checkImage image) head (sym read ∙ e) .1
-
-  pub answer-refused : (number : ℕ) → answer ≡ Answer.Refused number → number ≡ checkImage image
+module _ (image : List ℕ) (answer : Image) (read : answer ≡ readImage image) (head : Head) (e : answer ≡ Answer.Valid head) where
+  pub answer-valid : Valid image
   unfolding readImage
-  answer-refused number e = sym (is-refused image (checkImage image) number (sym read ∙ e) .0)
+  answer-valid = is-valid image (checkImage image) head (sym read ∙ e) .0
+
+  pub answer-head : head ≡ headOf image
+  unfolding readImage
+  answer-head = is-valid image (checkImage image) head (sym read ∙ e) .1
 
 -- the answers of the word test
 module _ (image word : List ℕ) (answer : Image) (read : answer ≡ readImage image) where
@@ -104,11 +99,12 @@ module _ (image word : List ℕ) (answer : Image) (read : answer ≡ readImage i
       at (suc checked) h = sym (h .0)
 
   module _ (head : Head) (e : answer ≡ Answer.Valid head) (below : Bool) (all-below : below ≡ known (head .symbols) word) where
+    head-symbols : head .symbols ≡ symbolsOf image
+    head-symbols = ap (λ (h : Head). h .symbols) (answer-head image answer read head e)
+
     tested : wordTest image word ≡ check (neg below) 32 (oneIf (accepts (automatonOf image) word))
     unfolding wordTest testWord
-    tested =
-        let k : head .symbols ≡ symbolsOf image = ap (λ (h : Head). h .symbols) (answer-head image answer read head e) in
-        rw (answer-valid image answer read head e, all-below, k)
+    tested = rw (answer-valid image answer read head e, all-below, head-symbols)
 
     pub test-unknown : not below ≡ true → 32 ≡ wordTest image word
     unfolding check neg
@@ -118,22 +114,22 @@ module _ (image word : List ℕ) (answer : Image) (read : answer ≡ readImage i
       pub word-symbols : Each (λ s. s < symbolsOf image) word
       unfolding known
       word-symbols s m =
-          let k : head .symbols ≡ symbolsOf image = ap (λ (h : Head). h .symbols) (answer-head image answer read head e) in
           let t : T (all (λ s. ltb s (head .symbols)) word) = holds (sym all-below ∙ not-false below known) in
-          rw (← k) (ltb→lt s (head .symbols) (all-each (λ s. ltb s (head .symbols)) word t s m))
+          rw (← head-symbols) (ltb→lt s (head .symbols) (all-each (λ s. ltb s (head .symbols)) word t s m))
 
-      module _ (back : ℕ) (taken : back ≡ takenBack (automatonOf image) word (head .finals)) (inside : Bool) (test : inside ≡ subset (head .initial) back) where
-        answered : wordTest image word ≡ oneIf inside
-        unfolding check neg accepts
-        answered =
-            let i : head .initial ≡ initialOf image = ap (λ (h : Head). h .initial) (answer-head image answer read head e) in
-            let f : head .finals ≡ finalOf image = ap (λ (h : Head). h .finals) (answer-head image answer read head e) in
-            tested ∙ rw (not-false below known, test, taken, i, f)
+      module _ (back : ℕ) (taken : back ≡ takenBack (automatonOf image) word (head .finals)) where
+        module _ (inside : Bool) (test : inside ≡ subset (head .initial) back) where
+          answered : wordTest image word ≡ oneIf inside
+          unfolding check neg accepts
+          answered =
+              let i : head .initial ≡ initialOf image = ap (λ (h : Head). h .initial) (answer-head image answer read head e) in
+              let f : head .finals ≡ finalOf image = ap (λ (h : Head). h .finals) (answer-head image answer read head e) in
+              tested ∙ rw (not-false below known, test, taken, i, f)
 
-        pub test-accepts : inside ≡ true → 1 ≡ wordTest image word
-        unfolding oneIf
-        test-accepts t = sym (answered ∙ rw t)
+          pub test-accepts : inside ≡ true → 1 ≡ wordTest image word
+          unfolding oneIf
+          test-accepts t = sym (answered ∙ rw t)
 
-        pub test-rejects : inside ≡ false → 0 ≡ wordTest image word
-        unfolding oneIf
-        test-rejects t = sym (answered ∙ rw t)
+          pub test-rejects : inside ≡ false → 0 ≡ wordTest image word
+          unfolding oneIf
+          test-rejects t = sym (answered ∙ rw t)

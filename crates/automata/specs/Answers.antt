@@ -22,5 +22,15 @@ readWith image zero = Valid (headOf image)
 readWith image (suc number) = Refused (suc number)
 
 unfoldable pub readImage : List ℕ → Image
-unfolding readWith
 readImage image = readWith image (checkImage image)
+
+-- "When an answer is an enum, a definition gives this paper's number and values for each of its cases." Here the number: 0 for an image that no check
+-- refuses, else the refusing number.
+unfoldable pub imageNumber : Image → ℕ
+imageNumber (Valid head) = 0
+imageNumber (Refused number) = number
+
+-- The values, in the five places that are lent for them: n, k, m, I and F of a valid image; what stood there before, for a refused one.
+unfoldable pub headAfter : List ℕ → Image → List ℕ
+headAfter before (Valid head) = head .states ∷ head .symbols ∷ head .rows ∷ head .initial ∷ head .finals ∷ []
+headAfter before (Refused number) = before

@@ -36,7 +36,6 @@ withRows X set (row ∷ rows) = withRows X (withRow X set row) rows
 
 -- "The backward set of a case X by symbol s is the set of states with a row by s whose case is a subset of X." Here of the symbol's rows.
 unfoldable pub backward : List Row → ℕ → ℕ
-unfolding withRow withRows
 backward rows X = withRows X 0 rows
 
 -- the case taken back by the word's symbols, "from last to first"

@@ -12,9 +12,7 @@ unfoldable pub little2 : List ℕ → ℕ → ℕ
 little2 bytes at = byteAt bytes at + 256 * byteAt bytes (at + 1)
 
 unfoldable pub little4 : List ℕ → ℕ → ℕ
-unfolding little2
 little4 bytes at = little2 bytes at + 65536 * little2 bytes (at + 2)
 
 unfoldable pub little8 : List ℕ → ℕ → ℕ
-unfolding little4
 little8 bytes at = little4 bytes at + 4294967296 * little4 bytes (at + 4)

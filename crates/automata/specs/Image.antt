@@ -1,13 +1,13 @@
--- The image of an automaton, as 01's sections "The image" and "What the desk gets back" have it: the head, the pairs, the rows, and checks 20 to 27.
+-- The image of an automaton, as 01's section "The image" and its table of numbers have it: the head, the pairs, the rows, and checks 20 to 27.
 -- Assumes nothing: these are definitions.
-use Prim.Native.Nat.{ℕ, zero, suc, _+_, _-_, _*_, _/_, _%_, _≤_, _<_}
+use Prim.Native.Nat.{ℕ, zero, suc, _+_, _*_, _/_, _%_}
 use mathlib.Core.Path.{_≡_}
 use mathlib.Core.Bool.{Bool, true, false}
 use mathlib.Core.List.{List, [], _∷_}
 use lib.Dec.{eqb, ltb}
 use lib.ListN.{length}
-use Rattle.lists.specs.Tests.{_and_, _or_, neg}
-use Rattle.lists.specs.Lists.{Each, eachFrom}
+use Rattle.lists.specs.Tests.{_and_, _or_, neg, choose}
+use Rattle.lists.specs.Lists.{eachFrom}
 use Rattle.masks.specs.Sets.{within}
 use Rattle.automata.specs.Bytes.{byteAt, little2, little4, little8}
 
@@ -48,12 +48,10 @@ spanStart image (suc s) = offsetOf image s + sizeOf image s
 
 -- the pair of symbol s keeps the rule: its offset, and "each length is a multiple of 9"
 unfoldable pub pairHolds : List ℕ → ℕ → Bool
-unfolding spanStart
 pairHolds image s = eqb (offsetOf image s) (spanStart image s) and eqb (sizeOf image s % 9) 0
 
 -- each pair does, "and the last span ends at the image's end"
 unfoldable pub pairsHold : List ℕ → Bool
-unfolding pairHolds spanStart
 pairsHold image = eachFrom (pairHolds image) (symbolsOf image) 0 and eqb (spanStart image (symbolsOf image)) (length image)
 
 -- "A row is a state, a symbol and a case"; the symbol is the one whose span it stands in
@@ -70,17 +68,10 @@ unfoldable pub rowsFrom : List ℕ → ℕ → ℕ → List Row
 rowsFrom image zero at = []
 rowsFrom image (suc count) at = rowAt image at ∷ rowsFrom image count (at + 9)
 
--- whole rows stand from start to end, and each row's state fits a mask
-pub record Span (image : List ℕ) (start end : ℕ) : Type 0 where
-  pub ordered : start ≤ end
-  pub inside : end ≤ length image
-  pub nines : (end - start) % 9 ≡ 0
-  pub states : Each (λ row. row .state < 64) (rowsFrom image ((end - start) / 9) start)
-
--- the rows of symbol s
+-- the rows of symbol s: those of its span. A number of k or above is no symbol and has none, whatever bytes stand where its pair would be: so equal
+-- automata are equal records.
 unfoldable pub rowsOf : List ℕ → ℕ → List Row
-unfolding rowsFrom
-rowsOf image s = rowsFrom image (sizeOf image s / 9) (offsetOf image s)
+rowsOf image s = choose (ltb s (symbolsOf image)) (rowsFrom image (sizeOf image s / 9) (offsetOf image s)) []
 
 -- row i of the m has a state below n and no bit of its case at n or above
 unfoldable pub rowHolds : List ℕ → ℕ → Bool
@@ -89,7 +80,6 @@ rowHolds image i =
     and within (statesOf image) (rowAt image (rowsStart image + 9 * i) .case)
 
 unfoldable pub rowsHold : List ℕ → Bool
-unfolding rowHolds
 rowsHold image = eachFrom (rowHolds image) (rowCountOf image) 0
 
 -- the number is 0 or above 64

@@ -16,7 +16,6 @@ oneIf false = 0
 
 -- "a word is accepted when F, taken back by its symbols from last to first, gives a set that contains I"
 unfoldable pub accepts : Automaton → List ℕ → Bool
-unfolding takenBack
 accepts A word = subset (A .initial) (takenBack A word (A .final))
 
 -- each symbol of the word is below k
@@ -25,11 +24,9 @@ known symbols word = all (λ s. ltb s symbols) word
 
 -- after the image's checks, 32: a symbol is k or above
 unfoldable pub testWord : List ℕ → List ℕ → ℕ → ℕ
-unfolding check oneIf accepts known
 testWord image word zero = check (neg (known (symbolsOf image) word)) 32 (oneIf (accepts (automatonOf image) word))
 testWord image word (suc refused) = suc refused
 
 -- the word test's number: that of the first check that applies, else 1 for a word that is accepted and 0 for one that is not
 unfoldable pub wordTest : List ℕ → List ℕ → ℕ
-unfolding testWord
 wordTest image word = testWord image word (checkImage image)

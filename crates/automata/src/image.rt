@@ -6,8 +6,7 @@ use crate::bytes::wide;
 ghost use mathlib.Core.Path.{_≡_};
 ghost use Prim.Native.Nat.{_+_, _*_, _≤_, _<_};
 ghost use lib.ListN.{length};
-ghost use Rattle.automata.specs.Bytes.{byteAt};
-ghost use Rattle.automata.specs.Image.{pairsHold, rowHolds, rowsHold, checkImage, symbolsOf, rowCountOf, statesOf};
+ghost use Rattle.automata.specs.Image.{symbolsOf, rowCountOf, offsetOf, sizeOf, pairsHold, rowHolds, rowsHold, checkImage};
 ghost use Rattle.automata.specs.Image.{outside as isOutside};
 ghost use Rattle.automata.specs.Answers.{readImage};
 
@@ -39,17 +38,33 @@ fn outside(number: u8) -> bool
     64 < number
 }
 
+// Where the rows of the symbol begin, by its pair.
+pub(crate) fn offset_of(image: &[u8], symbol: Symbol) -> usize
+    requires { ⌜ 28 + 8 * symbol .0 ≤ length (now image) ⌝ }
+    ensures { λ r. ⌜ (r ≡ offsetOf (now (image .entry)) (symbol .0)) × (r < 4294967296) ⌝ }
+{
+    read4(image, 20 + 8 * symbol.0 as usize)
+}
+
+// How many bytes they take, by its pair.
+pub(crate) fn size_of(image: &[u8], symbol: Symbol) -> usize
+    requires { ⌜ 28 + 8 * symbol .0 ≤ length (now image) ⌝ }
+    ensures { λ r. ⌜ (r ≡ sizeOf (now (image .entry)) (symbol .0)) × (r < 4294967296) ⌝ }
+{
+    read4(image, 24 + 8 * symbol.0 as usize)
+}
+
 // Whether each pair keeps the span rule and the last span ends at the image's end.
 fn pairs_hold(image: &[u8]) -> bool
     requires { ⌜ 20 + 8 * symbolsOf (now image) ≤ length (now image) ⌝ }
     ensures { λ r. ⌜ r ≡ pairsHold (now (image .entry)) ⌝ }
 {
-    let symbols = wide(image[1]);
-    let mut start = 20 + 8 * symbols;
-    let mut s: usize = 0;
-    while s < symbols {
-        let offset = read4(image, 20 + 8 * s);
-        let size = read4(image, 24 + 8 * s);
+    let symbols = image[1];
+    let mut start = 20 + 8 * wide(symbols);
+    let mut symbol = Symbol(0);
+    while symbol.0 < symbols {
+        let offset = offset_of(image, symbol);
+        let size = size_of(image, symbol);
         if offset != start {
             return false;
         }
@@ -57,7 +72,7 @@ fn pairs_hold(image: &[u8]) -> bool
             return false;
         }
         start = offset + size;
-        s += 1;
+        symbol = Symbol(symbol.0 + 1);
     }
     start == image.len()
 }

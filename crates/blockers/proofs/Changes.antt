@@ -10,7 +10,7 @@ use borrow.Author.Tests.{leb-true, le-leb, lt-leb, lt-ltb, le-ltb}
 use mir.Syntax.{w64}
 use mir.Val.{Fits}
 use lib.Dec.{leb, ltb}
-use lib.ListN.{length, getD, set, length-append}
+use lib.ListN.{length, getD, length-append}
 use lib.Seq.{append-snoc}
 use Rattle.lists.specs.Tests.{_and_, neg, choose}
 use Rattle.lists.specs.Lists.{keep}
@@ -18,21 +18,39 @@ use Rattle.lists.proofs.Tests.{is-true, choose-true, choose-false}
 use Rattle.masks.specs.Sets.{subset, full}
 use Rattle.masks.proofs.Laws.{below-within, within-full}
 use Rattle.machine.specs.Machine.{Blocker, leaves, staying, risen, frame}
-use Rattle.machine.specs.Lent.{blockersFrom, column, maskOf}
+use Rattle.machine.specs.Lent.{blockersFrom}
 use Rattle.blockers.specs.declared.Entered.{Entered}
 use Rattle.blockers.specs.declared.Entered.the-variants.{Held, Full}
-use Rattle.blockers.specs.Room.{Holds, blockerAt, tableOf, Placed, ClosedUp, Cleared, entering, enteredAnswer, enteredTable, Enters, risenAmong, risenTable, RisesAt, Frames}
-use Rattle.machine.proofs.LentTables.{column-length}
-use Rattle.blockers.proofs.Over.{over-length}
-use Rattle.blockers.proofs.Placing.{blockers-length, same-masks, same-levels, placed-first, placed-rest, stay-whole, Fronted, close-count, close-fronted, fronted-store, fronted-further, fronted-more, fronted-clear, fronted-full}
-
--- blockers that close up from the first place on
-module _ {Y : Blocker} {to end : ℕ} {masks levels masks′ levels′ : List ℕ} (closed : ClosedUp Y 0 0 to end masks levels masks′ levels′) where
-  close-long : to ≤ length masks → length masks′ ≡ length masks
-  close-long l =
-      let table : List Blocker = staying Y (tableOf to masks levels) in
-      ap length (close-fronted closed .new-masks)
-      ∙ over-length (column maskOf table) masks (omega (arith, column-length maskOf table, close-count closed))
+use Rattle.blockers.specs.Room.{
+  Holds,
+  blockerAt,
+  tableOf,
+  Placed,
+  Put,
+  ClosedUp,
+  entering,
+  enteredAnswer,
+  enteredTable,
+  Enters,
+  risenAmong,
+  risenTable,
+  RisesAt,
+  Frames,
+}
+use Rattle.blockers.proofs.Placing.{
+  blockers-length,
+  stay-whole,
+  placed-first,
+  placed-rest,
+  placed-masks-length,
+  placed-put,
+  same-masks,
+  same-levels,
+  close-count,
+  close-placed,
+  close-behind,
+  close-behind-count,
+}
 
 -- Y enters: no place is left for it, or it stands behind those that stayed
 module _ {Y : Blocker} {held end : ℕ} {masks levels masks′ levels′ : List ℕ} (closed : ClosedUp Y 0 0 held end masks levels masks′ levels′)
@@ -41,39 +59,37 @@ module _ {Y : Blocker} {held end : ℕ} {masks levels masks′ levels′ : List 
   unfolding entering
   entering-length = omega (arith, length-append (staying Y (tableOf held masks levels)) (Y ∷ []), close-count closed)
 
+  long : length masks′ ≡ length masks
+  long =
+      placed-masks-length (staying Y (tableOf held masks levels)) (close-placed closed) (asked .0 .in-masks)
+      (omega (arith, close-count closed, closed .few, asked .0 .in-masks))
+
   pub enter-full : length masks′ ≤ end → Enters held Y masks levels Full masks′ levels′
   unfolding enteredAnswer enteredTable
   enter-full l =
       let table : List Blocker = tableOf held masks levels in
-      let fits : held ≤ length masks = asked .0 .in-masks in
-      let count : end ≡ length (staying Y table) = close-count closed in
-      let short : end ≤ held = omega arith in
-      let long : length masks′ ≡ length masks = close-long closed fits in
-      let lacking : length masks < length (entering Y table) = omega (arith, entering-length) in
-      let all : staying Y table ≡ table = stay-whole Y table (omega (arith, blockers-length masks levels held 0)) in
+      let lacking : length masks < length (entering Y table) = omega (arith, long, entering-length) in
+      let all : staying Y table ≡ table =
+      stay-whole Y table (omega (arith, long, close-count closed, asked .0 .in-masks, blockers-length masks levels held 0)) in
       let lacks : leb (length (entering Y table)) (length masks) ≡ false = lt-leb (length (entering Y table)) (length masks) lacking in
       record {
         answers = sym (choose-false (Held (length (entering Y table))) Full lacks);
         tables = subst (λ (new : List Blocker). Placed held new masks levels masks′ levels′)
-            (all ∙ sym (choose-false (entering Y table) table lacks)) (fronted-full (close-fronted closed) (omega arith));
+            (all ∙ sym (choose-false (entering Y table) table lacks)) (close-placed closed);
       }
 
-  pub enter-held : {masks″ levels″ : List ℕ} → Cleared (end + 1) held (set masks′ end (Y .mask)) (set levels′ end (Y .level)) masks″ levels″
-      → end < length masks′ → Enters held Y masks levels (Held (end + 1)) masks″ levels″
+  pub enter-held : {masks″ levels″ : List ℕ} → Put Y end masks′ levels′ masks″ levels″ → end < length masks′
+      → Enters held Y masks levels (Held (end + 1)) masks″ levels″
   unfolding enteredAnswer enteredTable entering
-  enter-held {masks″} {levels″} cleared l =
+  enter-held {masks″} {levels″} put l =
       let table : List Blocker = tableOf held masks levels in
       let new : List Blocker = staying Y table ++ Y ∷ [] in
-      let long : length masks′ ≡ length masks = close-long closed (asked .0 .in-masks) in
       let same : length masks ≡ length levels = asked .1 in
-      let fits : length new ≤ length masks = omega (arith, entering-length) in
-      let room : leb (length new) (length masks) ≡ true = le-leb (length new) (length masks) fits in
+      let room : leb (length new) (length masks) ≡ true = le-leb (length new) (length masks) (omega (arith, long, entering-length)) in
       record {
         answers = ap Held (sym entering-length) ∙ sym (choose-true (Held (length new)) Full room);
         tables = subst (λ (t : List Blocker). Placed held t masks levels masks″ levels″) (sym (choose-true new table room))
-            (fronted-clear
-            (fronted-store (close-fronted closed) Y end (close-count closed) (omega arith) (omega arith))
-            (sym entering-length) cleared);
+            (placed-put (close-placed closed) put (close-count closed) (asked .0) (omega (arith, long)) (omega (arith, long)));
       }
 
 -- What a caller learns from the answer: whether there was room, the new count, and what stands in the tables.
@@ -117,7 +133,7 @@ module _ {held : ℕ} {Y : Blocker} {masks levels : List ℕ} {answer : Entered}
         choice-full (leb (length (entering Y (tableOf held masks levels))) (length masks)) (length (entering Y (tableOf held masks levels)))
         (sym (enters .answers) ∙ e)
 
-    pub full-placed : Placed held (tableOf held masks levels) masks levels masks′ levels′
+    full-placed : Placed held (tableOf held masks levels) masks levels masks′ levels′
     unfolding enteredTable
     full-placed =
         subst (λ (table : List Blocker). Placed held table masks levels masks′ levels′)
@@ -129,44 +145,38 @@ module _ {held : ℕ} {Y : Blocker} {masks levels : List ℕ} {answer : Entered}
     pub full-levels : Holds held masks levels → levels′ ≡ levels
     full-levels holds = same-levels holds full-placed
 
--- the blocker at a place rises
-abbrev pub risenAt : List ℕ → List ℕ → ℕ → Blocker
-risenAt masks levels place = record { mask = getD masks place 0; level = getD levels place 0 + 1 }
-
-module _ {held place stands : ℕ} {masks levels masks′ levels′ : List ℕ}
-    (passed : ClosedUp (risenAt masks levels place) 0 0 place stands masks levels masks′ levels′)
-    (asked : Holds held masks levels × (place < held) × (getD levels place 0 < 4294967295)) where
-  same-risen : risenAt masks levels place ≡ risen (blockerAt masks levels place)
+-- the blocker at a place rises to a level
+module _ {held place level stands : ℕ} {masks levels masks′ levels′ : List ℕ}
+    (asked : Holds held masks levels × (place < held) × (getD levels place 0 < 4294967295)) (above : level ≡ getD levels place 0 + 1)
+    (passed : ClosedUp (record { mask = getD masks place 0; level = level }) 0 0 place stands masks levels masks′ levels′) where
+  same-risen : record { mask = getD masks place 0; level = level } ≡ risen (blockerAt masks levels place)
   unfolding risen
-  same-risen = ap (λ (level : ℕ). record { mask = getD masks place 0; level = level }) (add-one (getD levels place 0))
+  same-risen = ap (λ (n : ℕ). record { mask = getD masks place 0; level = n }) (above ∙ add-one (getD levels place 0))
 
   pub rises-at : {end : ℕ} {masks″ levels″ masks‴ levels‴ : List ℕ}
-      → ClosedUp (risenAt masks levels place) (stands + 1) (place + 1) held end
-      (set masks′ stands (getD masks place 0)) (set levels′ stands (getD levels place 0 + 1)) masks″ levels″
-      → Cleared end held masks″ levels″ masks‴ levels‴ → RisesAt held place masks levels end stands masks‴ levels‴
+      → Put (record { mask = getD masks place 0; level = level }) stands masks′ levels′ masks″ levels″
+      → ClosedUp (record { mask = getD masks place 0; level = level }) (stands + 1) (place + 1) held end masks″ levels″ masks‴ levels‴
+      → RisesAt held place masks levels end stands masks‴ levels‴
   unfolding risenAmong
-  rises-at {end} {masks″} {levels″} {masks‴} {levels‴} ahead cleared =
-      let R : Blocker = risenAt masks levels place in
+  rises-at {end} {masks″} {levels″} {masks‴} {levels‴} put ahead =
+      let R : Blocker = record { mask = getD masks place 0; level = level } in
       let first : List Blocker = staying R (tableOf place masks levels) ++ R ∷ [] in
       let others : List Blocker = blockersFrom masks levels (held - (place + 1)) (place + 1) in
       let short : stands ≤ place = omega arith in
       let in-masks : held ≤ length masks = asked .0 .in-masks in
       let in-levels : held ≤ length levels = asked .0 .in-levels in
       let count : stands + 1 ≡ length first = omega (arith, close-count passed, length-append (staying R (tableOf place masks levels)) (R ∷ [])) in
-      let fronted : Fronted first masks levels (set masks′ stands (R .mask)) (set levels′ stands (R .level)) =
-      fronted-store (close-fronted passed) R stands (close-count passed) (omega arith) (omega arith) in
-      let further : blockersFrom (set masks′ stands (R .mask)) (set levels′ stands (R .level)) (held - (place + 1)) (place + 1) ≡ others =
-      fronted-further fronted (held - (place + 1)) (place + 1) (omega arith) in
-      let ends : end ≡ length (first ++ staying R others) =
-      omega (arith, ahead .count, ap (λ (table : List Blocker). length (staying R table)) further, length-append first (staying R others)) in
+      let holds : Holds place masks levels = record { in-masks = omega arith; in-levels = omega arith } in
+      let new : Placed place first masks levels masks″ levels″ =
+      placed-put (close-placed passed) put (close-count passed) holds (omega arith) (omega arith) in
       let whole : first ++ staying R others ≡ risenTable held masks levels place =
       append-snoc (staying R (tableOf place masks levels)) R (staying R others)
       ∙ ap (λ (r : Blocker). staying r (tableOf place masks levels) ++ r ∷ staying r others) same-risen in
       record {
-        count = ends ∙ ap length whole;
+        count = close-behind-count new ahead count (omega arith) (omega arith) ∙ ap length whole;
         stands = close-count passed ∙ ap (λ (r : Blocker). length (staying r (tableOf place masks levels))) same-risen;
         tables = subst (λ (table : List Blocker). Placed held table masks levels masks‴ levels‴) whole
-            (fronted-clear (fronted-more fronted count (omega arith) ahead) ends cleared);
+            (close-behind new ahead count (omega arith) (omega arith) (omega arith));
         few = omega (arith, ahead .few);
         below = omega (arith, ahead .count);
         left = omega (arith, ahead .few);
@@ -224,15 +234,14 @@ module _ (j : ℕ) (masks levels : List ℕ) (fits : (i : ℕ) → Fits w64 (get
   stay-above (suc count) at =
       ap₂ (λ (b : Bool) (rest : List Blocker). choose b (blockerAt masks levels at ∷ rest) rest) (above at) (stay-above count (suc at))
 
-pub framed : {j held end : ℕ} {masks levels masks′ levels′ masks″ levels″ : List ℕ} → ((i : ℕ) → Fits w64 (getD masks i 0))
+pub framed : {j held end : ℕ} {masks levels masks′ levels′ : List ℕ}
     → ClosedUp (record { mask = 18446744073709551615; level = j }) 0 0 held end masks levels masks′ levels′
-    → Cleared end held masks′ levels′ masks″ levels″ → Frames held j masks levels end masks″ levels″
-framed {j} {held} {end} {masks} {levels} {masks′} {levels′} {masks″} {levels″} fits closed cleared =
+    → ((i : ℕ) → Fits w64 (getD masks i 0)) → Frames held j masks levels end masks′ levels′
+framed {j} {held} {end} {masks} {levels} {masks′} {levels′} closed fits =
     let same : staying (record { mask = 18446744073709551615; level = j }) (tableOf held masks levels) ≡ frame j (tableOf held masks levels) =
     stay-above j masks levels fits held 0 in
     record {
       count = close-count closed ∙ ap length same;
-      tables = subst (λ (table : List Blocker). Placed held table masks levels masks″ levels″) same
-          (fronted-clear (close-fronted closed) (close-count closed) cleared);
+      tables = subst (λ (table : List Blocker). Placed held table masks levels masks′ levels′) same (close-placed closed);
       few = omega (arith, closed .few);
     }

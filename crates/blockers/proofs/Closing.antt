@@ -1,32 +1,24 @@
 -- Blockers that leave: the others close up, and the places that became free are cleared. Assumes nothing.
 use Prim.Native.Nat.{ℕ, _+_, _-_, _≤_, _<_, max}
-use mathlib.Core.Path.{_≡_, refl, sym, ap, ap₂, subst, _∙_}
+use mathlib.Core.Path.{_≡_, refl, sym, ap, ap₂, _∙_}
 use mathlib.Core.Bool.{Bool, true, false}
 use mathlib.Core.List.{List, [], _∷_, _++_, append-nil}
 use native.Mathlib.Omega.{arith}
-use borrow.Author.Tests.{le-leb, lt-leb}
 use lib.ListN.{length, take, getD, set, replicate, length-append, length-set, length-replicate, replicate-append-replicate}
 use lib.Seq.{append-snoc, length-take-le, set-getD}
-use Rattle.lists.specs.Tests.{_and_, neg, choose}
+use Rattle.lists.specs.Tests.{neg, choose}
 use Rattle.lists.specs.Lists.{keep}
-use Rattle.masks.specs.Sets.{subset}
-use Rattle.machine.specs.Machine.{Blocker, leaves, staying}
+use Rattle.machine.specs.Machine.{Blocker, covers, leaves, staying}
 use Rattle.machine.specs.Lent.{blockersFrom, column, maskOf, levelOf}
-use Rattle.blockers.specs.Room.{Holds, blockerAt, over, ClosedUp, Cleared}
+use Rattle.blockers.specs.Room.{Holds, blockerAt, Put, over, ClosedUp, Cleared}
 use Rattle.machine.proofs.LentTables.{column-length}
-use Rattle.blockers.proofs.Over.{column-append, over-behind, over-store-last, over-nothing}
+use Rattle.blockers.proofs.Over.{column-append, over-behind, over-store-last, over-over, over-nothing}
 use Rattle.blockers.proofs.Walks.{next-blocker, no-blocker}
 
--- whether one blocker leaves, by the two tests
-pub leaves-high : (mask level other highest : ℕ) → highest < level
-    → false ≡ leaves (record { mask = other; level = highest }) (record { mask = mask; level = level })
-unfolding leaves _and_
-leaves-high mask level other highest l = sym (rw (lt-leb level highest l))
-
-pub leaves-low : (mask level other highest : ℕ) (b : Bool) → level ≤ highest → b ≡ subset mask other
-    → b ≡ leaves (record { mask = other; level = highest }) (record { mask = mask; level = level })
-unfolding leaves _and_
-leaves-low mask level other highest b l e = e ∙ sym (rw (le-leb level highest l))
+-- a blocker leaves for Y where Y covers it at its own level
+leaves-covered : (Y blocker : Blocker) → covers (blocker .level) (blocker .mask) Y ≡ leaves Y blocker
+unfolding covers leaves
+leaves-covered Y blocker = refl
 
 -- who stays of some blockers, by the first of them
 module _ (Y first : Blocker) (rest : List Blocker) where
@@ -58,16 +50,25 @@ module _ {field : Blocker → ℕ} {start : ℕ} {stayed : List Blocker} {before
       ap (λ (table : List ℕ). getD table i 0) (closing .new)
       ∙ over-behind (take start before ++ column field stayed) before i (omega (arith, front-length))
 
-  closing-stores : (blocker : Blocker) (kept : ℕ) → kept ≡ start + length stayed → kept < length before
-      → Closing field start (stayed ++ blocker ∷ []) before (set after kept (field blocker))
+  closing-stores : {after′ : List ℕ} (blocker : Blocker) (kept : ℕ) → kept ≡ start + length stayed → kept < length before
+      → after′ ≡ set after kept (field blocker) → Closing field start (stayed ++ blocker ∷ []) before after′
   unfolding column
-  closing-stores blocker kept e l =
+  closing-stores blocker kept e l stored =
       record {
-        new = ap (λ (table : List ℕ). set table kept (field blocker)) (closing .new)
+        new = stored
+            ∙ ap (λ (table : List ℕ). set table kept (field blocker)) (closing .new)
             ∙ over-store-last (take start before) (column field stayed) before kept (field blocker) (e ∙ sym front-length) l
             ∙ ap (λ (new : List ℕ). over (take start before ++ new) before) (sym (column-append field stayed (blocker ∷ [])));
-        long = length-set after kept (field blocker) ∙ closing .long;
+        long = ap length stored ∙ length-set after kept (field blocker) ∙ closing .long;
       }
+
+  -- the places up to `to` are cleared behind them
+  closing-cleared : {last : List ℕ} (kept to : ℕ) → kept ≡ start + length stayed → last ≡ over (take kept after ++ replicate (to - kept) 0) after
+      → last ≡ over (take start before ++ column field stayed ++ replicate (to - kept) 0) before
+  closing-cleared kept to e new =
+      new
+      ∙ ap (λ (table : List ℕ). over (take kept table ++ replicate (to - kept) 0) table) (closing .new)
+      ∙ over-over (take start before ++ column field stayed) (replicate (to - kept) 0) before kept (e ∙ sym front-length)
 
 -- The walk that closes blockers up, before the one at i: those in `stayed` are done, `kept` is the place for the next, and they with what stays of
 -- the blockers ahead are all that stay.
@@ -109,69 +110,66 @@ module _ {Y : Blocker} {start from to : ℕ} {masks levels : List ℕ} {kept i :
       (closing-ahead (so-far .closing-masks) (omega arith) i (omega arith))
       (closing-ahead (so-far .closing-levels) (omega arith) i (omega arith))
 
-  pub close-masks-long : length masks′ ≡ length masks
-  close-masks-long = so-far .closing-masks .long
+  -- one blocker further, with those that stayed by then
+  goes : {kept′ : ℕ} {masks″ levels″ : List ℕ} (stayed : List Blocker) → i < to → kept′ ≤ kept + 1 → kept′ ≡ start + length stayed
+      → stayed ++ staying Y (blockersFrom masks levels (to - (i + 1)) (i + 1)) ≡ so-far .stayed ++ staying Y (blockersFrom masks levels (to - i) i)
+      → Closing maskOf start stayed masks masks″ → Closing levelOf start stayed levels levels″
+      → ClosingUp Y start from to masks levels kept′ (i + 1) masks″ levels″
+  goes stayed l most count ahead of-masks of-levels =
+      record {
+        begins = omega arith;
+        bound = omega arith;
+        behind = so-far .behind;
+        few = omega arith;
+        in-masks = so-far .in-masks;
+        in-levels = so-far .in-levels;
+        stayed = stayed;
+        count = count;
+        ahead = ahead ∙ so-far .ahead;
+        closing-masks = of-masks;
+        closing-levels = of-levels;
+      }
 
-  pub close-levels-long : length levels′ ≡ length levels
-  close-levels-long = so-far .closing-levels .long
-
-  pub close-leaves : (b : Bool) → i < to → b ≡ leaves Y (blockerAt masks′ levels′ i) → b ≡ true
+  pub close-leaves : (b : Bool) → i < to → b ≡ covers (getD levels′ i 0) (getD masks′ i 0) Y → b ≡ true
       → ClosingUp Y start from to masks levels kept (i + 1) masks′ levels′
   close-leaves b l e t =
       let rest : List Blocker = blockersFrom masks levels (to - (i + 1)) (i + 1) in
-      let left : leaves Y (blockerAt masks levels i) ≡ true = ap (leaves Y) (sym unchanged) ∙ sym e ∙ t in
-      let same : staying Y (blockersFrom masks levels (to - i) i) ≡ staying Y rest =
-      ap (staying Y) (next-blocker masks levels to i l) ∙ first-leaves Y (blockerAt masks levels i) rest left in
-      record {
-        begins = omega arith;
-        bound = omega arith;
-        behind = so-far .behind;
-        few = omega arith;
-        in-masks = so-far .in-masks;
-        in-levels = so-far .in-levels;
-        stayed = so-far .stayed;
-        count = so-far .count;
-        ahead = ap (λ (others : List Blocker). so-far .stayed ++ others) (sym same) ∙ so-far .ahead;
-        closing-masks = so-far .closing-masks;
-        closing-levels = so-far .closing-levels;
-      }
+      let left : leaves Y (blockerAt masks levels i) ≡ true = sym (e ∙ leaves-covered Y (blockerAt masks′ levels′ i) ∙ ap (leaves Y) unchanged) ∙ t in
+      let same : staying Y rest ≡ staying Y (blockersFrom masks levels (to - i) i) =
+      sym (ap (staying Y) (next-blocker masks levels to i l) ∙ first-leaves Y (blockerAt masks levels i) rest left) in
+      goes (so-far .stayed) l (omega arith) (so-far .count) (ap (λ (others : List Blocker). so-far .stayed ++ others) same)
+      (so-far .closing-masks) (so-far .closing-levels)
 
-  pub close-stays : (b : Bool) → i < to → b ≡ leaves Y (blockerAt masks′ levels′ i) → b ≡ false
-      → ClosingUp Y start from to masks levels (kept + 1) (i + 1) (set masks′ kept (getD masks′ i 0)) (set levels′ kept (getD levels′ i 0))
-  close-stays b l e t =
-      let blocker : Blocker = blockerAt masks′ levels′ i in
-      let rest : List Blocker = blockersFrom masks levels (to - (i + 1)) (i + 1) in
-      let same : staying Y (blockersFrom masks levels (to - i) i) ≡ blocker ∷ staying Y rest =
-      ap (staying Y) (next-blocker masks levels to i l ∙ ap (λ (first : Blocker). first ∷ rest) (sym unchanged))
-      ∙ first-stays Y blocker rest (sym e ∙ t) in
-      record {
-        begins = omega arith;
-        bound = omega arith;
-        behind = so-far .behind;
-        few = omega arith;
-        in-masks = so-far .in-masks;
-        in-levels = so-far .in-levels;
-        stayed = so-far .stayed ++ blocker ∷ [];
-        count = omega (arith, so-far .count, length-append (so-far .stayed) (blocker ∷ []));
-        ahead = append-snoc (so-far .stayed) blocker (staying Y rest)
-            ∙ ap (λ (others : List Blocker). so-far .stayed ++ others) (sym same)
-            ∙ so-far .ahead;
-        closing-masks = closing-stores (so-far .closing-masks) (omega arith) blocker kept (so-far .count) (omega arith);
-        closing-levels = closing-stores (so-far .closing-levels) (omega arith) blocker kept (so-far .count) (omega arith);
-      }
+  -- One that stays goes to the next place.
+  module _ (b : Bool) (l : i < to) (e : b ≡ covers (getD levels′ i 0) (getD masks′ i 0) Y) (t : b ≡ false) where
+    moves : {masks″ levels″ : List ℕ} → masks″ ≡ set masks′ kept (getD masks′ i 0) → levels″ ≡ set levels′ kept (getD levels′ i 0)
+        → ClosingUp Y start from to masks levels (kept + 1) (i + 1) masks″ levels″
+    moves em el =
+        let blocker : Blocker = blockerAt masks′ levels′ i in
+        let rest : List Blocker = blockersFrom masks levels (to - (i + 1)) (i + 1) in
+        let same : blocker ∷ staying Y rest ≡ staying Y (blockersFrom masks levels (to - i) i) =
+        sym (ap (staying Y) (next-blocker masks levels to i l ∙ ap (λ (first : Blocker). first ∷ rest) (sym unchanged))
+        ∙ first-stays Y blocker rest (sym (e ∙ leaves-covered Y blocker) ∙ t)) in
+        goes (so-far .stayed ++ blocker ∷ []) l (omega arith) (omega (arith, so-far .count, length-append (so-far .stayed) (blocker ∷ [])))
+        (append-snoc (so-far .stayed) blocker (staying Y rest) ∙ ap (λ (others : List Blocker). so-far .stayed ++ others) same)
+        (closing-stores (so-far .closing-masks) (omega arith) blocker kept (so-far .count) (omega arith) em)
+        (closing-stores (so-far .closing-levels) (omega arith) blocker kept (so-far .count) (omega arith) el)
 
-  -- where none has left yet, each stands in its place already
-  pub close-stands : (b : Bool) → i < to → b ≡ leaves Y (blockerAt masks′ levels′ i) → b ≡ false → kept ≡ i
-      → ClosingUp Y start from to masks levels (kept + 1) (i + 1) masks′ levels′
-  close-stands b l e t same =
-      subst (λ (table : List ℕ). ClosingUp Y start from to masks levels (kept + 1) (i + 1) masks′ table)
-      (ap (λ (k : ℕ). set levels′ k (getD levels′ i 0)) same ∙ set-getD levels′ i 0)
-      (subst (λ (table : List ℕ). ClosingUp Y start from to masks levels (kept + 1) (i + 1) table (set levels′ kept (getD levels′ i 0)))
-      (ap (λ (k : ℕ). set masks′ k (getD masks′ i 0)) same ∙ set-getD masks′ i 0) (close-stays b l e t))
+    pub close-stays : {masks″ levels″ : List ℕ} → Put (blockerAt masks′ levels′ i) kept masks′ levels′ masks″ levels″
+        → ClosingUp Y start from to masks levels (kept + 1) (i + 1) masks″ levels″
+    close-stays put = moves (put .new-masks) (put .new-levels)
 
-  pub close-ends : to ≤ i → ClosedUp Y start from to kept masks levels masks′ levels′
+    -- where none has left yet, it stands there already
+    pub close-stands : kept ≡ i → ClosingUp Y start from to masks levels (kept + 1) (i + 1) masks′ levels′
+    close-stands same = moves (own masks′) (own levels′)
+      where
+        own : (table : List ℕ) → table ≡ set table kept (getD table i 0)
+        own table = sym (ap (λ (k : ℕ). set table k (getD table i 0)) same ∙ set-getD table i 0)
+
+  pub close-ends : {masks″ levels″ : List ℕ} → Cleared kept to masks′ levels′ masks″ levels″ → to ≤ i
+      → ClosedUp Y start from to kept masks levels masks″ levels″
   unfolding staying keep
-  close-ends l =
+  close-ends cleared l =
       let all : so-far .stayed ≡ staying Y (blockersFrom masks levels (to - from) from) =
       sym (append-nil (so-far .stayed))
       ∙ ap (λ (others : List Blocker). so-far .stayed ++ staying Y others) (sym (no-blocker masks levels to i l))
@@ -179,8 +177,10 @@ module _ {Y : Blocker} {start from to : ℕ} {masks levels : List ℕ} {kept i :
       record {
         count = so-far .count ∙ ap (λ (table : List Blocker). start + length table) all;
         few = omega arith;
-        new-masks = so-far .closing-masks .new ∙ ap (λ (table : List Blocker). over (take start masks ++ column maskOf table) masks) all;
-        new-levels = so-far .closing-levels .new ∙ ap (λ (table : List Blocker). over (take start levels ++ column levelOf table) levels) all;
+        new-masks = closing-cleared (so-far .closing-masks) (omega arith) kept to (so-far .count) (cleared .new-masks)
+            ∙ ap (λ (table : List Blocker). over (take start masks ++ column maskOf table ++ replicate (to - kept) 0) masks) all;
+        new-levels = closing-cleared (so-far .closing-levels) (omega arith) kept to (so-far .count) (cleared .new-levels)
+            ∙ ap (λ (table : List Blocker). over (take start levels ++ column levelOf table ++ replicate (to - kept) 0) levels) all;
       }
 
 -- One table while its places from `from` on are cleared, before the one at i.
@@ -202,25 +202,33 @@ clearing-starts from to before l =
       long = refl;
     }
 
+zeros-more : (from i : ℕ) → from ≤ i → _++_ {A = ℕ} (replicate (i - from) 0) (0 ∷ []) ≡ replicate (i + 1 - from) 0
+zeros-more from i a =
+    let one : i - from + 1 ≡ i + 1 - from = omega arith in
+    replicate-append-replicate (i - from) 1 0 ∙ ap (λ (k : ℕ). replicate k 0) one
+
 one-more-zero : (from i : ℕ) (before : List ℕ) → from ≤ i → i < length before
     → set (over (take from before ++ replicate (i - from) 0) before) i 0 ≡ over (take from before ++ replicate (i + 1 - from) 0) before
 one-more-zero from i before a l =
     let front : i ≡ length (take from before ++ replicate (i - from) 0) =
-    omega (arith, length-append (take from before) (replicate (i - from) 0), length-take-le from before (omega arith), length-replicate {A = ℕ} (i - from) 0) in
-    let one : i - from + 1 ≡ i + 1 - from = omega arith in
-    let zeros : _++_ {A = ℕ} (replicate (i - from) 0) (0 ∷ []) ≡ replicate (i + 1 - from) 0 =
-    replicate-append-replicate (i - from) 1 0 ∙ ap (λ (k : ℕ). replicate k 0) one in
+    omega (
+      arith,
+      length-append (take from before) (replicate (i - from) 0),
+      length-take-le from before (omega arith),
+      length-replicate {A = ℕ} (i - from) 0,
+    ) in
     over-store-last (take from before) (replicate (i - from) 0) before i 0 front l
-    ∙ ap (λ (more : List ℕ). over (take from before ++ more) before) zeros
+    ∙ ap (λ (more : List ℕ). over (take from before ++ more) before) (zeros-more from i a)
 
-clearing-goes : {from to i : ℕ} {before after : List ℕ} → Clearing from to i before after → i < to → Clearing from to (i + 1) before (set after i 0)
-clearing-goes {from} {to} {i} {before} {after} so-far l =
+clearing-goes : {from to i : ℕ} {before after after′ : List ℕ} → Clearing from to i before after → i < to → after′ ≡ set after i 0
+    → Clearing from to (i + 1) before after′
+clearing-goes {from} {to} {i} {before} {after} so-far l stored =
     record {
       begins = omega arith;
       bound = omega arith;
       fits = so-far .fits;
-      new = ap (λ (table : List ℕ). set table i 0) (so-far .new) ∙ one-more-zero from i before (so-far .begins) (omega arith);
-      long = length-set after i 0 ∙ so-far .long;
+      new = stored ∙ ap (λ (table : List ℕ). set table i 0) (so-far .new) ∙ one-more-zero from i before (so-far .begins) (omega arith);
+      long = ap length stored ∙ length-set after i 0 ∙ so-far .long;
     }
 
 clearing-ends : {from to i : ℕ} {before after : List ℕ} → Clearing from to i before after → to ≤ i
@@ -241,14 +249,12 @@ clear-starts {from} {to} {masks} {levels} held = record {
 }
 
 module _ {from to i : ℕ} {masks levels masks′ levels′ : List ℕ} (so-far : ClearingBoth from to i masks levels masks′ levels′) where
-  pub clear-masks-long : length masks′ ≡ length masks
-  clear-masks-long = so-far .of-masks .long
-
-  pub clear-levels-long : length levels′ ≡ length levels
-  clear-levels-long = so-far .of-levels .long
-
-  pub clear-goes : i < to → ClearingBoth from to (i + 1) masks levels (set masks′ i 0) (set levels′ i 0)
-  clear-goes l = record { of-masks = clearing-goes (so-far .of-masks) l; of-levels = clearing-goes (so-far .of-levels) l }
+  pub clear-goes : {masks″ levels″ : List ℕ} → i < to → Put (record { mask = 0; level = 0 }) i masks′ levels′ masks″ levels″
+      → ClearingBoth from to (i + 1) masks levels masks″ levels″
+  clear-goes l put = record {
+    of-masks = clearing-goes (so-far .of-masks) l (put .new-masks);
+    of-levels = clearing-goes (so-far .of-levels) l (put .new-levels);
+  }
 
   pub clear-ends : to ≤ i → Cleared from to masks levels masks′ levels′
   clear-ends l = record { new-masks = clearing-ends (so-far .of-masks) l; new-levels = clearing-ends (so-far .of-levels) l }

@@ -4,7 +4,7 @@ use mathlib.Core.Path.{_≡_, refl, sym, ap, subst, _∙_}
 use mathlib.Core.List.{List, [], _∷_, _++_, append-assoc, append-nil}
 use native.Mathlib.Numerals.{add-one}
 use native.Mathlib.Omega.{arith}
-use lib.ListN.{length, take, drop, getD, set, length-append, length-drop}
+use lib.ListN.{length, take, drop, getD, set, length-append}
 use lib.Seq.{drop-cons, take-append-seam, drop-append-add, drop-drop, getD-append-add, getD-drop, set-append-seam, append-snoc}
 use Rattle.machine.specs.Lent.{column}
 use Rattle.blockers.specs.Room.{over}
@@ -16,10 +16,6 @@ module _ {A : Type 0} (field : A → ℕ) where
   column-append [] more = refl
   column-append (entry ∷ table) more = ap (λ (l : List ℕ). field entry ∷ l) (column-append table more)
 
-pub over-length : (front before : List ℕ) → length front ≤ length before → length (over front before) ≡ length before
-unfolding over
-over-length front before l = simp (length-append, length-drop) (omega arith)
-
 -- behind the front all is as before
 pub over-behind : (front before : List ℕ) (i : ℕ) → length front ≤ i → getD (over front before) i 0 ≡ getD before i 0
 unfolding over
@@ -28,7 +24,7 @@ over-behind front before i l =
     subst (λ (k : ℕ). getD (over front before) k 0 ≡ getD before k 0) e
     (getD-append-add front (drop (length front) before) (i - length front) 0 ∙ getD-drop (length front) before (i - length front) 0)
 
-over-drop : (front before : List ℕ) (i : ℕ) → length front ≤ i → drop i (over front before) ≡ drop i before
+pub over-drop : (front before : List ℕ) (i : ℕ) → length front ≤ i → drop i (over front before) ≡ drop i before
 unfolding over
 over-drop front before i l =
     let e : length front + (i - length front) ≡ i = omega arith in
@@ -36,7 +32,7 @@ over-drop front before i l =
     (drop-append-add front (drop (length front) before) (i - length front) ∙ drop-drop (i - length front) (length front) before)
 
 -- a store right behind the front makes it longer by one
-pub over-store : (front before : List ℕ) (at x : ℕ) → at ≡ length front → at < length before → set (over front before) at x ≡ over (front ++ x ∷ []) before
+over-store : (front before : List ℕ) (at x : ℕ) → at ≡ length front → at < length before → set (over front before) at x ≡ over (front ++ x ∷ []) before
 unfolding over
 over-store front before at x e l =
     let h : length front < length before = omega arith in

@@ -7,15 +7,15 @@ use mathlib.Core.List.{List, [], _∷_, _++_, append-assoc, append-nil}
 use native.Mathlib.Nat.{sub-zero}
 use native.Mathlib.Omega.{arith}
 use lib.ListN.{length, take, drop, getD, set, replicate, length-append, length-replicate}
-use lib.Seq.{append-snoc, drop-cons, getD-at, length-take-le}
+use lib.Seq.{append-snoc, drop-cons, getD-at, take-at, set-split, length-take-le}
 use Rattle.lists.specs.Tests.{neg, choose}
 use Rattle.lists.specs.Lists.{keep}
 use Rattle.lists.proofs.Lists.{keep-length}
 use Rattle.machine.specs.Machine.{Blocker, leaves, staying}
 use Rattle.machine.specs.Lent.{blockersFrom, column, maskOf, levelOf, placed}
-use Rattle.blockers.specs.Room.{Holds, blockerAt, tableOf, Placed, over, ClosedUp, Cleared}
-use Rattle.machine.proofs.LentTables.{column-length, placed-length}
-use Rattle.blockers.proofs.Over.{column-append, over-behind, over-store, over-over, over-nothing}
+use Rattle.blockers.specs.Room.{Holds, blockerAt, tableOf, Placed, Put, over, ClosedUp}
+use Rattle.machine.proofs.LentTables.{column-length, placed-length, drop-placed, read-back-table}
+use Rattle.blockers.proofs.Over.{column-append, over-behind, over-drop, over-nothing}
 
 -- the blockers in use are as many as are held
 pub blockers-length : (masks levels : List ℕ) (count at : ℕ) → length (blockersFrom masks levels count at) ≡ count
@@ -79,12 +79,12 @@ columns-read masks levels (blocker ∷ part) first-masks rest-masks first-levels
     shifted table first x new rest t = t ∙ ap (λ (l : List ℕ). l ++ rest) (sym (append-snoc first x new))
 
 -- new entries, and 0 in each place that became free, are written over the first places
+front-length : (old : ℕ) (new : List ℕ) → length (new ++ replicate (old - length new) 0) ≡ max old (length new)
+front-length old new = omega (arith, length-append new (replicate (old - length new) 0), length-replicate {A = ℕ} (old - length new) 0)
+
 placed-over : (old : ℕ) (new before : List ℕ) → placed old new before ≡ over (new ++ replicate (old - length new) 0) before
 unfolding placed over
-placed-over old new before =
-    let e : max old (length new) ≡ length (new ++ replicate (old - length new) 0) =
-    omega (arith, length-append new (replicate (old - length new) 0), length-replicate {A = ℕ} (old - length new) 0) in
-    ap (λ (k : ℕ). (new ++ replicate (old - length new) 0) ++ drop k before) e
+placed-over old new before = ap (λ (k : ℕ). (new ++ replicate (old - length new) 0) ++ drop k before) (sym (front-length old new))
 
 -- what follows the new entries: 0 in each place that became free, and what stood there before
 unfoldable behind : ℕ → List ℕ → List ℕ → List ℕ
@@ -106,7 +106,7 @@ placed-parts field held first part rest before =
 
 module _ {held : ℕ} {masks levels masks′ levels′ : List ℕ} where
   -- The blockers in use are the new ones, and any part of them stands where it stands in the list.
-  pub placed-part : (first part rest : List Blocker) → Placed held (first ++ part ++ rest) masks levels masks′ levels′
+  placed-part : (first part rest : List Blocker) → Placed held (first ++ part ++ rest) masks levels masks′ levels′
       → blockersFrom masks′ levels′ (length part) (length first) ≡ part
   placed-part first part rest new =
       columns-read masks′ levels′ part
@@ -116,8 +116,7 @@ module _ {held : ℕ} {masks levels masks′ levels′ : List ℕ} where
       (new .new-masks ∙ placed-parts maskOf held first part rest masks) (new .new-levels ∙ placed-parts levelOf held first part rest levels)
 
   pub placed-table : (table : List Blocker) → Placed held table masks levels masks′ levels′ → tableOf (length table) masks′ levels′ ≡ table
-  placed-table table new =
-      placed-part [] table [] (subst (λ (all : List Blocker). Placed held all masks levels masks′ levels′) (sym (append-nil table)) new)
+  placed-table table new = rw (new .new-masks, new .new-levels) (read-back-table table held held masks levels)
 
   pub placed-first : (first rest : List Blocker) → Placed held (first ++ rest) masks levels masks′ levels′
       → blockersFrom masks′ levels′ (length first) 0 ≡ first
@@ -176,11 +175,6 @@ module _ {held : ℕ} {masks levels masks′ levels′ : List ℕ} (holds : Hold
       new .new-levels
       ∙ placed-own held (column levelOf (tableOf held masks levels)) levels (holds .in-levels) (levels-column masks levels held 0 (omega arith))
 
--- both tables with some blockers written over their first places
-pub record Fronted (table : List Blocker) (masks levels masks′ levels′ : List ℕ) : Type 0 where
-  pub new-masks : masks′ ≡ over (column maskOf table) masks
-  pub new-levels : levels′ ≡ over (column levelOf table) levels
-
 -- the blockers that stay, closed up from the first place on
 module _ {Y : Blocker} {held end : ℕ} {masks levels masks′ levels′ : List ℕ} (closed : ClosedUp Y 0 0 held end masks levels masks′ levels′) where
   whole : staying Y (blockersFrom masks levels (held - 0) 0) ≡ staying Y (tableOf held masks levels)
@@ -189,91 +183,116 @@ module _ {Y : Blocker} {held end : ℕ} {masks levels masks′ levels′ : List 
   pub close-count : end ≡ length (staying Y (tableOf held masks levels))
   close-count = omega (arith, closed .count, ap length whole)
 
-  pub close-fronted : Fronted (staying Y (tableOf held masks levels)) masks levels masks′ levels′
-  close-fronted =
+  pub close-placed : Placed held (staying Y (tableOf held masks levels)) masks levels masks′ levels′
+  close-placed =
       record {
-        new-masks = closed .new-masks ∙ ap (λ (table : List Blocker). over (column maskOf table) masks) whole;
-        new-levels = closed .new-levels ∙ ap (λ (table : List Blocker). over (column levelOf table) levels) whole;
+        new-masks = closed .new-masks ∙ in-place maskOf masks;
+        new-levels = closed .new-levels ∙ in-place levelOf levels;
       }
+    where
+      in-place : (field : Blocker → ℕ) (before : List ℕ)
+          → over (column field (staying Y (blockersFrom masks levels (held - 0) 0)) ++ replicate (held - end) 0) before
+          ≡ placed held (column field (staying Y (tableOf held masks levels))) before
+      in-place field before =
+          ap₂ (λ (table : List Blocker) (n : ℕ). over (column field table ++ replicate (held - n) 0) before) whole
+          (close-count ∙ sym (column-length field (staying Y (tableOf held masks levels))))
+          ∙ sym (placed-over held (column field (staying Y (tableOf held masks levels))) before)
 
-module _ {table : List Blocker} {masks levels masks′ levels′ : List ℕ} (fronted : Fronted table masks levels masks′ levels′) where
+-- the new entries are a table's front
+placed-take : (old : ℕ) (new before : List ℕ) (at : ℕ) → at ≡ length new → take at (placed old new before) ≡ new
+placed-take old new before at e = ap (take at) (placed-behind old new before) ∙ take-at new (behind old new before) at (sym e)
+
+-- one more entry, right behind them
+placed-store : (old : ℕ) (new before : List ℕ) (at x : ℕ) → at ≡ length new → old ≤ length before → at < length before
+    → set (placed old new before) at x ≡ placed old (new ++ x ∷ []) before
+unfolding behind
+placed-store old new before at x e h l =
+    let inside : at < length (placed old new before) = omega (arith, placed-length old new before h (omega arith)) in
+    let one : length (new ++ x ∷ []) ≡ suc at = omega (arith, length-append new (x ∷ [])) in
+    set-split (placed old new before) at x inside
+    ∙ ap₂ (λ (first rest : List ℕ). first ++ x ∷ rest) (placed-take old new before at e) (drop-placed (suc at) old new before (omega arith))
+    ∙ sym (placed-behind old (new ++ x ∷ []) before
+    ∙ append-snoc new x (behind old (new ++ x ∷ []) before)
+    ∙ ap (λ (n : ℕ). new ++ x ∷ (replicate (old - n) 0 ++ drop (max old n) before)) one)
+
+-- behind all that is new the table is as before
+module _ (old : ℕ) (new before : List ℕ) (i : ℕ) (h : old ≤ i) (l : length new ≤ i) where
+  placed-further : getD (placed old new before) i 0 ≡ getD before i 0
+  placed-further =
+      ap (λ (table : List ℕ). getD table i 0) (placed-over old new before)
+      ∙ over-behind (new ++ replicate (old - length new) 0) before i (omega (arith, front-length old new))
+
+  placed-drop : drop i (placed old new before) ≡ drop i before
+  placed-drop =
+      ap (drop i) (placed-over old new before) ∙ over-drop (new ++ replicate (old - length new) 0) before i (omega (arith, front-length old new))
+
+-- more entries in place of all up to `to`, right behind the new ones
+placed-more : (old to start end : ℕ) (new more before : List ℕ) → start ≡ length new → end ≡ start + length more → old ≤ to → end ≤ to
+    → over (take start (placed old new before) ++ more ++ replicate (to - end) 0) (placed old new before) ≡ placed to (new ++ more) before
+unfolding over
+placed-more old to start end new more before s e o t =
+    let front : List ℕ = new ++ more ++ replicate (to - end) 0 in
+    let count : end ≡ length (new ++ more) = omega (arith, length-append new more) in
+    let size : length front ≡ to = omega (arith, length-append (new ++ more) (replicate (to - end) 0), length-replicate {A = ℕ} (to - end) 0) in
+    ap (λ (first : List ℕ). over (first ++ more ++ replicate (to - end) 0) (placed old new before)) (placed-take old new before start s)
+    ∙ ap (λ (rest : List ℕ). front ++ rest) (placed-drop old new before (length front) (omega arith) (omega arith))
+    ∙ ap (λ (n : ℕ). over (new ++ more ++ replicate (to - n) 0) before) count
+    ∙ sym (placed-over to (new ++ more) before)
+
+module _ {held : ℕ} {table : List Blocker} {masks levels masks′ levels′ : List ℕ} (new : Placed held table masks levels masks′ levels′) where
   -- one more blocker, right behind them
-  pub fronted-store : (blocker : Blocker) (at : ℕ) → at ≡ length table → at < length masks → at < length levels
-      → Fronted (table ++ blocker ∷ []) masks levels (set masks′ at (blocker .mask)) (set levels′ at (blocker .level))
+  pub placed-put : {Y : Blocker} {at : ℕ} {masks″ levels″ : List ℕ} → Put Y at masks′ levels′ masks″ levels″ → at ≡ length table
+      → Holds held masks levels → at < length masks → at < length levels → Placed held (table ++ Y ∷ []) masks levels masks″ levels″
   unfolding column
-  fronted-store blocker at e m l =
+  placed-put {Y} {at} put e holds m l =
       record {
-        new-masks = store maskOf masks masks′ (fronted .new-masks) m;
-        new-levels = store levelOf levels levels′ (fronted .new-levels) l;
+        new-masks = put .new-masks ∙ store maskOf masks masks′ (new .new-masks) (holds .in-masks) m;
+        new-levels = put .new-levels ∙ store levelOf levels levels′ (new .new-levels) (holds .in-levels) l;
       }
     where
-      store : (field : Blocker → ℕ) (before after : List ℕ) → after ≡ over (column field table) before → at < length before
-          → set after at (field blocker) ≡ over (column field (table ++ blocker ∷ [])) before
-      store field before after new l =
-          ap (λ (t : List ℕ). set t at (field blocker)) new
-          ∙ over-store (column field table) before at (field blocker) (e ∙ sym (column-length field table)) l
-          ∙ ap (λ (front : List ℕ). over front before) (sym (column-append field table (blocker ∷ [])))
+      store : (field : Blocker → ℕ) (before after : List ℕ) → after ≡ placed held (column field table) before → held ≤ length before → at < length before
+          → set after at (field Y) ≡ placed held (column field (table ++ Y ∷ [])) before
+      store field before after now h l =
+          ap (λ (t : List ℕ). set t at (field Y)) now
+          ∙ placed-store held (column field table) before at (field Y) (e ∙ sym (column-length field table)) h l
+          ∙ ap (λ (all : List ℕ). placed held all before) (sym (column-append field table (Y ∷ [])))
 
-  -- blockers from further behind are as before
-  pub fronted-further : (count from : ℕ) → length table ≤ from → blockersFrom masks′ levels′ count from ≡ blockersFrom masks levels count from
-  fronted-further count from l =
-      blockers-behind masks levels masks′ levels′ count from
-      (same maskOf masks masks′ (fronted .new-masks)) (same levelOf levels levels′ (fronted .new-levels))
-    where
-      same : (field : Blocker → ℕ) (before after : List ℕ) → after ≡ over (column field table) before
-          → (i : ℕ) → from ≤ i → getD after i 0 ≡ getD before i 0
-      same field before after new i h =
-          ap (λ (t : List ℕ). getD t i 0) new
-          ∙ over-behind (column field table) before i (omega (arith, column-length field table))
+  -- Blockers from further behind close up to them.
+  module _ {Y : Blocker} {start from to end : ℕ} {masks″ levels″ : List ℕ} (closed : ClosedUp Y start from to end masks′ levels′ masks″ levels″)
+      (e : start ≡ length table) (h : held ≤ from) (l : start ≤ from) where
+    as-before : blockersFrom masks′ levels′ (to - from) from ≡ blockersFrom masks levels (to - from) from
+    as-before =
+        blockers-behind masks levels masks′ levels′ (to - from) from
+        (same maskOf masks masks′ (new .new-masks)) (same levelOf levels levels′ (new .new-levels))
+      where
+        same : (field : Blocker → ℕ) (before after : List ℕ) → after ≡ placed held (column field table) before
+            → (i : ℕ) → from ≤ i → getD after i 0 ≡ getD before i 0
+        same field before after now i g =
+            ap (λ (t : List ℕ). getD t i 0) now
+            ∙ placed-further held (column field table) before i (omega arith) (omega (arith, column-length field table))
 
-  -- they close up right behind
-  pub fronted-more : {Y : Blocker} {start from to end : ℕ} {masks″ levels″ : List ℕ} → start ≡ length table → start ≤ from
-      → ClosedUp Y start from to end masks′ levels′ masks″ levels″
-      → Fronted (table ++ staying Y (blockersFrom masks levels (to - from) from)) masks levels masks″ levels″
-  fronted-more {Y} {start} {from} {to} {end} {masks″} {levels″} e l closed =
-      record {
-        new-masks = more maskOf masks masks′ masks″ (fronted .new-masks) (closed .new-masks);
-        new-levels = more levelOf levels levels′ levels″ (fronted .new-levels) (closed .new-levels);
-      }
-    where
-      more : (field : Blocker → ℕ) (before after last : List ℕ) → after ≡ over (column field table) before
-          → last ≡ over (take start after ++ column field (staying Y (blockersFrom masks′ levels′ (to - from) from))) after
-          → last ≡ over (column field (table ++ staying Y (blockersFrom masks levels (to - from) from))) before
-      more field before after last new newer =
-          newer
-          ∙ ap₂ (λ (t : List ℕ) (others : List Blocker). over (take start t ++ column field (staying Y others)) t) new
-          (fronted-further (to - from) from (omega arith))
-          ∙ over-over (column field table) (column field (staying Y (blockersFrom masks levels (to - from) from))) before start
-          (e ∙ sym (column-length field table))
-          ∙ ap (λ (front : List ℕ). over front before) (sym (column-append field table (staying Y (blockersFrom masks levels (to - from) from))))
+    pub close-behind-count : end ≡ length (table ++ staying Y (blockersFrom masks levels (to - from) from))
+    close-behind-count =
+        omega (
+          arith,
+          closed .count,
+          ap (λ (others : List Blocker). length (staying Y others)) as-before,
+          length-append table (staying Y (blockersFrom masks levels (to - from) from)),
+        )
 
-  -- the places that became free are cleared
-  pub fronted-clear : {held end : ℕ} {masks″ levels″ : List ℕ} → end ≡ length table → Cleared end held masks′ levels′ masks″ levels″
-      → Placed held table masks levels masks″ levels″
-  fronted-clear {held} {end} {masks″} {levels″} e cleared =
-      record {
-        new-masks = finish maskOf masks masks′ masks″ (fronted .new-masks) (cleared .new-masks);
-        new-levels = finish levelOf levels levels′ levels″ (fronted .new-levels) (cleared .new-levels);
-      }
-    where
-      finish : (field : Blocker → ℕ) (before after last : List ℕ) → after ≡ over (column field table) before
-          → last ≡ over (take end after ++ replicate (held - end) 0) after → last ≡ placed held (column field table) before
-      finish field before after last new newer =
-          newer
-          ∙ ap (λ (t : List ℕ). over (take end t ++ replicate (held - end) 0) t) new
-          ∙ over-over (column field table) (replicate (held - end) 0) before end (e ∙ sym (column-length field table))
-          ∙ ap (λ (k : ℕ). over (column field table ++ replicate (held - k) 0) before) (e ∙ sym (column-length field table))
-          ∙ sym (placed-over held (column field table) before)
-
-  -- none became free
-  pub fronted-full : {held : ℕ} → held ≡ length table → Placed held table masks levels masks′ levels′
-  fronted-full {held} e =
-      record { new-masks = finish maskOf masks masks′ (fronted .new-masks); new-levels = finish levelOf levels levels′ (fronted .new-levels) }
-    where
-      finish : (field : Blocker → ℕ) (before after : List ℕ) → after ≡ over (column field table) before → after ≡ placed held (column field table) before
-      finish field before after new =
-          let none : held - length (column field table) ≡ 0 = omega (arith, column-length field table) in
-          new
-          ∙ ap (λ (front : List ℕ). over front before) (sym (append-nil (column field table)))
-          ∙ ap (λ (k : ℕ). over (column field table ++ replicate k 0) before) (sym none)
-          ∙ sym (placed-over held (column field table) before)
+    pub close-behind : from ≤ to → Placed to (table ++ staying Y (blockersFrom masks levels (to - from) from)) masks levels masks″ levels″
+    close-behind order =
+        record {
+          new-masks = closed .new-masks ∙ more maskOf masks masks′ (new .new-masks);
+          new-levels = closed .new-levels ∙ more levelOf levels levels′ (new .new-levels);
+        }
+      where
+        more : (field : Blocker → ℕ) (before after : List ℕ) → after ≡ placed held (column field table) before
+            → over (take start after ++ column field (staying Y (blockersFrom masks′ levels′ (to - from) from)) ++ replicate (to - end) 0) after
+            ≡ placed to (column field (table ++ staying Y (blockersFrom masks levels (to - from) from))) before
+        more field before after now =
+            let others : List Blocker = staying Y (blockersFrom masks levels (to - from) from) in
+            ap₂ (λ (t : List ℕ) (among : List Blocker). over (take start t ++ column field (staying Y among) ++ replicate (to - end) 0) t) now as-before
+            ∙ placed-more held to start end (column field table) (column field others) before (e ∙ sym (column-length field table))
+            (omega (arith, close-behind-count, column-length field others, length-append table others)) (omega arith) (omega (arith, closed .few))
+            ∙ ap (λ (all : List ℕ). placed to all before) (sym (column-append field table others))

@@ -3,7 +3,7 @@ use Prim.Native.Nat.{ℕ, _+_, _-_, _≤_, _<_}
 use mathlib.Core.Path.{_≡_}
 use mathlib.Core.List.{List, [], _∷_, _++_}
 use lib.Dec.{leb}
-use lib.ListN.{length, take, drop, getD, replicate}
+use lib.ListN.{length, take, drop, getD, set, replicate}
 use Rattle.lists.specs.Tests.{choose}
 use Rattle.machine.specs.Machine.{Blocker, staying, risen, frame}
 use Rattle.machine.specs.Lent.{blockersFrom, column, maskOf, levelOf, placed}
@@ -28,22 +28,29 @@ pub record Placed (held : ℕ) (table : List Blocker) (masks levels masks′ lev
   pub new-masks : masks′ ≡ placed held (column maskOf table) masks
   pub new-levels : levels′ ≡ placed held (column levelOf table) levels
 
+-- Y stands at a place of both tables. All else is as before.
+pub record Put (Y : Blocker) (place : ℕ) (masks levels masks′ levels′ : List ℕ) : Type 0 where
+  pub new-masks : masks′ ≡ set masks place (Y .mask)
+  pub new-levels : levels′ ≡ set levels place (Y .level)
+
 -- a table whose first places were written over
 unfoldable pub over : List ℕ → List ℕ → List ℕ
 over front before = front ++ drop (length front) before
-
--- Of the blockers from `from` to `to`, those that stay for Y stand in both tables from `start` on, the last before `end`: no more than there were.
--- All else is as before.
-pub record ClosedUp (Y : Blocker) (start from to end : ℕ) (masks levels masks′ levels′ : List ℕ) : Type 0 where
-  pub count : end ≡ start + length (staying Y (blockersFrom masks levels (to - from) from))
-  pub few : end ≤ start + (to - from)
-  pub new-masks : masks′ ≡ over (take start masks ++ column maskOf (staying Y (blockersFrom masks levels (to - from) from))) masks
-  pub new-levels : levels′ ≡ over (take start levels ++ column levelOf (staying Y (blockersFrom masks levels (to - from) from))) levels
 
 -- The places from `from` to `to` of both tables hold 0. All else is as before.
 pub record Cleared (from to : ℕ) (masks levels masks′ levels′ : List ℕ) : Type 0 where
   pub new-masks : masks′ ≡ over (take from masks ++ replicate (to - from) 0) masks
   pub new-levels : levels′ ≡ over (take from levels ++ replicate (to - from) 0) levels
+
+-- Of the blockers from `from` to `to`, those that stay for Y stand in both tables from `start` on, the last before `end`, and 0 behind them up to `to`:
+-- no more than there were. All else is as before.
+pub record ClosedUp (Y : Blocker) (start from to end : ℕ) (masks levels masks′ levels′ : List ℕ) : Type 0 where
+  pub count : end ≡ start + length (staying Y (blockersFrom masks levels (to - from) from))
+  pub few : end ≤ start + (to - from)
+  pub new-masks : masks′
+      ≡ over (take start masks ++ column maskOf (staying Y (blockersFrom masks levels (to - from) from)) ++ replicate (to - end) 0) masks
+  pub new-levels : levels′
+      ≡ over (take start levels ++ column levelOf (staying Y (blockersFrom masks levels (to - from) from)) ++ replicate (to - end) 0) levels
 
 -- "Blockers of level ≤ i that are subsets of Y leave and the rest close up; Y enters at the end"
 unfoldable pub entering : Blocker → List Blocker → List Blocker

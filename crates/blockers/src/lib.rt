@@ -1,31 +1,68 @@
 // The blocker room: two lent tables, masks and levels, of which the first `held` places are in use.
 ghost use mathlib.Core.Path.{_≡_};
-ghost use Prim.Native.Nat.{_+_, _-_, _≤_, _<_};
+ghost use Prim.Native.Nat.{_+_, _-_, _≤_, _<_, min};
 ghost use lib.ListN.{length, getD};
-ghost use Rattle.lists.specs.Tests.{_or_};
+ghost use lib.Dec.{leb, eqb};
+ghost use Rattle.lists.specs.Tests.{_and_, _or_, neg};
 ghost use Rattle.lists.specs.Lists.{any};
-ghost use Rattle.machine.specs.Machine.{covers as coversCase, leaves as leavesFor, noneAt};
-ghost use Rattle.machine.specs.Lent.{blockersFrom};
-ghost use Rattle.blockers.specs.Room.{Holds, tableOf, ClosedUp, Cleared, Enters, RisesAt, Frames};
+ghost use Rattle.machine.specs.Machine.{covers as coversCase};
+ghost use Rattle.machine.specs.Lent.{blockersFrom, blockersIn};
+ghost use Rattle.blockers.specs.Room.{Holds, blockerAt, Put, ClosedUp, Cleared, Enters, RisesAt, Frames};
 
 // A level's number.
 pub struct Level(pub u32);
+
+impl Level {
+    // The level one above.
+    pub fn above(self) -> Level
+        requires { ⌜ self .0 < 4294967295 ⌝ }
+        ensures { λ r. ⌜ r .0 ≡ self .0 + 1 ⌝ }
+    {
+        Level(self.0 + 1)
+    }
+
+    // Whether the level is the other or below it.
+    pub fn is_at_most(self, other: Level) -> bool
+        ensures { λ r. ⌜ r ≡ leb (self .0) (other .0) ⌝ }
+    {
+        self.0 <= other.0
+    }
+
+    // Whether the two are one level.
+    pub fn equals(self, other: Level) -> bool
+        ensures { λ r. ⌜ r ≡ eqb (self .0) (other .0) ⌝ }
+    {
+        self.0 == other.0
+    }
+}
+
+// Whether both of two tests held. Neither waits for the other, so that the compiler can test several blockers at once.
+fn both(a: bool, b: bool) -> bool
+    ensures { λ r. ⌜ r ≡ a and b ⌝ }
+{
+    a & b
+}
+
+// Whether one of two tests held.
+fn either(a: bool, b: bool) -> bool
+    ensures { λ r. ⌜ r ≡ a or b ⌝ }
+{
+    a | b
+}
 
 // Whether the blocker, a mask with its level, is of level `least` or more and the case is a subset of it.
 pub fn covers(mask: u64, level: Level, least: Level, case: u64) -> bool
     ensures { λ r. ⌜ r ≡ coversCase (least .0) case (record { mask = mask; level = level .0 }) ⌝ }
 {
-    if level.0 < least.0 {
-        return false;
-    }
-    masks::subset(case, mask)
+    both(least.is_at_most(level), masks::subset(case, mask))
 }
 
-// Whether one of two tests held. Both have been made, so that several blockers are tested before anything is asked.
-fn either(a: bool, b: bool) -> bool
-    ensures { λ r. ⌜ r ≡ a or b ⌝ }
+// The same of the blocker at a place.
+fn covers_at(masks: &[u64], levels: &[u32], place: usize, least: Level, case: u64) -> bool
+    requires { ⌜ (place < length (now masks)) × (place < length (now levels)) ⌝ }
+    ensures { λ r. ⌜ r ≡ coversCase (least .0) case (blockerAt (now (masks .entry)) (now (levels .entry)) place) ⌝ }
 {
-    a | b
+    covers(masks[place], Level(levels[place]), least, case)
 }
 
 // Whether one of the four blockers from `at` on covers the case.
@@ -33,10 +70,10 @@ fn four_cover(masks: &[u64], levels: &[u32], at: usize, level: Level, case: u64)
     requires { ⌜ Holds (at + 4) (now masks) (now levels) ⌝ }
     ensures { λ r. ⌜ r ≡ any (coversCase (level .0) case) (blockersFrom (now (masks .entry)) (now (levels .entry)) 4 at) ⌝ }
 {
-    let first = covers(masks[at], Level(levels[at]), level, case);
-    let second = covers(masks[at + 1], Level(levels[at + 1]), level, case);
-    let third = covers(masks[at + 2], Level(levels[at + 2]), level, case);
-    let fourth = covers(masks[at + 3], Level(levels[at + 3]), level, case);
+    let first = covers_at(masks, levels, at, level, case);
+    let second = covers_at(masks, levels, at + 1, level, case);
+    let third = covers_at(masks, levels, at + 2, level, case);
+    let fourth = covers_at(masks, levels, at + 3, level, case);
     either(either(first, second), either(third, fourth))
 }
 
@@ -54,7 +91,7 @@ fn covered_from(
 {
     let mut i = from;
     while i < held {
-        if covers(masks[i], Level(levels[i]), level, case) {
+        if covers_at(masks, levels, i, level, case) {
             return true;
         }
         i += 1;
@@ -62,12 +99,22 @@ fn covered_from(
     false
 }
 
+// How many blockers two tables have: the shorter says.
+fn count_in(masks: &[u64], levels: &[u32]) -> usize
+    ensures { λ r. ⌜ r ≡ min (length (now (masks .entry))) (length (now (levels .entry))) ⌝ }
+{
+    if masks.len() < levels.len() {
+        return masks.len();
+    }
+    levels.len()
+}
+
 // Whether the case is a subset of a blocker of this level or more. Four blockers are tested before one is asked for: a branch for each would keep
 // the compiler from testing them at once.
-pub fn covered(masks: &[u64], levels: &[u32], held: usize, level: Level, case: u64) -> bool
-    requires { ⌜ Holds held (now masks) (now levels) ⌝ }
-    ensures { λ r. ⌜ r ≡ any (coversCase (level .0) case) (tableOf held (now (masks .entry)) (now (levels .entry))) ⌝ }
+pub fn covered(masks: &[u64], levels: &[u32], level: Level, case: u64) -> bool
+    ensures { λ r. ⌜ r ≡ any (coversCase (level .0) case) (blockersIn (now (masks .entry)) (now (levels .entry))) ⌝ }
 {
+    let held = count_in(masks, levels);
     let mut i: usize = 0;
     while 4 <= held - i {
         if four_cover(masks, levels, i, level, case) {
@@ -78,14 +125,13 @@ pub fn covered(masks: &[u64], levels: &[u32], held: usize, level: Level, case: u
     covered_from(masks, levels, held, i, level, case)
 }
 
-// Whether no blocker has exactly this level.
-pub fn none_at(masks: &[u64], levels: &[u32], held: usize, level: Level) -> bool
-    requires { ⌜ Holds held (now masks) (now levels) ⌝ }
-    ensures { λ r. ⌜ r ≡ noneAt (tableOf held (now (masks .entry)) (now (levels .entry))) (level .0) ⌝ }
+// Whether no place holds this level.
+pub fn none_at(levels: &[u32], level: Level) -> bool
+    ensures { λ r. ⌜ r ≡ neg (any (λ other. eqb other (level .0)) (now (levels .entry))) ⌝ }
 {
     let mut i: usize = 0;
-    while i < held {
-        if levels[i] == level.0 {
+    while i < levels.len() {
+        if Level(levels[i]).equals(level) {
             return false;
         }
         i += 1;
@@ -93,18 +139,30 @@ pub fn none_at(masks: &[u64], levels: &[u32], held: usize, level: Level) -> bool
     true
 }
 
-// Whether the blocker, a mask with its level, is of level `highest` or lower and a subset of the other mask.
-fn leaves(mask: u64, level: Level, other: u64, highest: Level) -> bool
-    ensures { λ r. ⌜ r ≡ leavesFor (record { mask = other; level = highest .0 }) (record { mask = mask; level = level .0 }) ⌝ }
+// The mask stands at the place, with its level.
+fn put(masks: &mut [u64], levels: &mut [u32], place: usize, mask: u64, level: Level)
+    requires { ⌜ (place < length (now masks)) × (place < length (now levels)) ⌝ }
+    ensures { λ _. ⌜ Put (record { mask = mask; level = level .0 }) place (now (masks .entry)) (now (levels .entry)) (now (masks .exit)) (now (levels .exit)) ⌝ }
 {
-    if highest.0 < level.0 {
-        return false;
-    }
-    masks::subset(mask, other)
+    masks[place] = mask;
+    levels[place] = level.0;
 }
 
-// Of the blockers from `from` to `to`, those that stay for a mask with its level close up from `start` on; answers the place behind the last.
-// Where none has left yet, nothing is written.
+// The places from `from` to `to` hold 0.
+pub fn clear(masks: &mut [u64], levels: &mut [u32], from: usize, to: usize)
+    requires { ⌜ Holds to (now masks) (now levels) ⌝ }
+    ensures { λ r. ⌜ Cleared from to (now (masks .entry)) (now (levels .entry)) (now (masks .exit)) (now (levels .exit)) ⌝ }
+{
+    let mut i = from;
+    while i < to {
+        put(masks, levels, i, 0, Level(0));
+        i += 1;
+    }
+}
+
+// Of the blockers from `from` to `to`, those of the level or lower that are subsets of the mask leave: it covers them at their own level. The rest
+// close up from `start` on, and the places that become free hold 0. Answers the place behind the last that stays. Where none has left yet, nothing is
+// written.
 fn close_up(
     masks: &mut [u64],
     levels: &mut [u32],
@@ -120,7 +178,9 @@ fn close_up(
     let mut kept = start;
     let mut i = from;
     while i < to {
-        if leaves(masks[i], Level(levels[i]), mask, level) {
+        let old = masks[i];
+        let old_level = Level(levels[i]);
+        if covers(mask, level, old_level, old) {
             i += 1;
             continue;
         }
@@ -129,25 +189,12 @@ fn close_up(
             i += 1;
             continue;
         }
-        masks[kept] = masks[i];
-        levels[kept] = levels[i];
+        put(masks, levels, kept, old, old_level);
         kept += 1;
         i += 1;
     }
+    clear(masks, levels, kept, to);
     kept
-}
-
-// The places from `from` to `to` hold 0.
-pub fn clear(masks: &mut [u64], levels: &mut [u32], from: usize, to: usize)
-    requires { ⌜ Holds to (now masks) (now levels) ⌝ }
-    ensures { λ r. ⌜ Cleared from to (now (masks .entry)) (now (levels .entry)) (now (masks .exit)) (now (levels .exit)) ⌝ }
-{
-    let mut i = from;
-    while i < to {
-        masks[i] = 0;
-        levels[i] = 0;
-        i += 1;
-    }
 }
 
 // How many blockers are held once one has entered, or that there is no room for it.
@@ -166,11 +213,8 @@ pub fn enter(masks: &mut [u64], levels: &mut [u32], held: usize, mask: u64, leve
     if masks.len() <= end {
         return Entered::Full;
     }
-    masks[end] = mask;
-    levels[end] = level.0;
-    let count = end + 1;
-    clear(masks, levels, count, held);
-    Entered::Held(count)
+    put(masks, levels, end, mask, level);
+    Entered::Held(end + 1)
 }
 
 // How many blockers are held once one has risen, and where that one stands.
@@ -185,20 +229,10 @@ pub fn rise(masks: &mut [u64], levels: &mut [u32], held: usize, place: usize) ->
     ensures { λ r. ⌜ RisesAt held place (now (masks .entry)) (now (levels .entry)) (r .held) (r .place) (now (masks .exit)) (now (levels .exit)) ⌝ }
 {
     let mask = masks[place];
-    let level = levels[place] + 1;
-    let stands = close_up(masks, levels, 0, 0, place, mask, Level(level));
-    masks[stands] = mask;
-    levels[stands] = level;
-    let end = close_up(
-        masks,
-        levels,
-        stands + 1,
-        place + 1,
-        held,
-        mask,
-        Level(level),
-    );
-    clear(masks, levels, end, held);
+    let level = Level(levels[place]).above();
+    let stands = close_up(masks, levels, 0, 0, place, mask, level);
+    put(masks, levels, stands, mask, level);
+    let end = close_up(masks, levels, stands + 1, place + 1, held, mask, level);
     Kept {
         held: end,
         place: stands,
@@ -210,7 +244,5 @@ pub fn frame(masks: &mut [u64], levels: &mut [u32], held: usize, level: Level) -
     requires { ⌜ Holds held (now masks) (now levels) ⌝ }
     ensures { λ r. ⌜ Frames held (level .0) (now (masks .entry)) (now (levels .entry)) r (now (masks .exit)) (now (levels .exit)) ⌝ }
 {
-    let end = close_up(masks, levels, 0, 0, held, 18446744073709551615, level);
-    clear(masks, levels, end, held);
-    end
+    close_up(masks, levels, 0, 0, held, 18446744073709551615, level)
 }

@@ -1,42 +1,44 @@
 -- The ways through a block: the set finds no place, or it enters and the pending case leaves. Assumes nothing.
 use Prim.Native.Nat.{ℕ, zero, suc, _+_, _-_, _≤_, _<_, max}
 use mathlib.Core.Path.{_≡_, refl, sym, ap, subst, _∙_}
-use mathlib.Core.Bool.{Bool, true, false}
-use mathlib.Core.List.{List, append-assoc}
-use mathlib.Core.Option.{Option, none, some}
+use mathlib.Core.List.{List, [], _∷_, append-assoc}
 use native.Mathlib.Numerals.{add-one}
 use native.Mathlib.Omega.{arith}
-use lib.ListN.{length}
+use lib.ListN.{length, take}
 use Rattle.lists.specs.Tests.{choose}
 use Rattle.automata.specs.declared.image.Head.{Head}
-use Rattle.machine.specs.Machine.{Blocker, Pending, byStates, passes, hintAt, chosenFrom, chosen, finalPending, pendingAfter, blockStep, ifRoom, judge}
+use Rattle.machine.specs.Machine.{Blocker, Pending, Configuration, hintAt, chosenFrom, chosen, byStates, finalPending, pendingAfter, blockStep, blockersLack, judge}
 use Rattle.machine.specs.Machine as Machine
-use Rattle.machine.specs.Lent.{pendingFirst, columnBack, caseOf, symbolOf, placed}
-use Rattle.machine.specs.Runs.{systemOf}
+use Rattle.machine.specs.Lent.{blockersFrom, blockersIn, pendingFirst, columnBack, caseOf, symbolOf, placed}
+use Rattle.machine.specs.Runs.{systemOf, givenOf, numberOf, casesIn, symbolsIn, tablesAfter}
+use Rattle.machine.specs.Records.{Stage, configurationOf, pendingOf, recordOf, after}
+use Rattle.machine.proofs.Passing.{chosen-is, chosen-hinted}
 use Rattle.machine.proofs.LentTables.{column-back-length, pending-length, read-back-pending, placed-placed, placed-cases, placed-symbols}
-use Rattle.blockers.specs.Room.{tableOf, entering, Enters}
+use Rattle.blockers.specs.Room.{Holds, entering, Enters}
+use Rattle.blockers.specs.declared.Level.{Level}
 use Rattle.blockers.specs.declared.Entered.{Entered}
 use Rattle.blockers.specs.declared.Entered.the-variants.{Held, Full}
+use Rattle.blockers.proofs.Parts.{part-table}
 use Rattle.blockers.proofs.Placing.{placed-table, placed-masks-length, placed-levels-length}
 use Rattle.blockers.proofs.Changes.{held-room, held-count, held-fits, held-placed, full-room, full-masks, full-levels}
-use Rattle.choices.specs.Found.{Given, choiceOf}
+use Rattle.choices.specs.Found.{ReadAs, choiceOf}
 use Rattle.choices.specs.declared.Choice.{Choice}
 use Rattle.pending.specs.Room.{Holds as HoldsWord, Placed as PlacedWord}
 use Rattle.checker.specs.declared.record.Run.{Run}
-use Rattle.checker.specs.Stage.{Stage, stage, configurationOf, left, after, judged, Ready, Stopped, Pends, blockedRecord, Unpends, Countable}
-use Rattle.checker.proofs.Stages.{ready-given, stopped-is, stage-same}
+use Rattle.checker.specs.Stage.{stage, hintsOf, madeBy, blockOf, Ready, leftOf, countedOf, blockedOf, Leaves, Unpends, Pends, Countable}
+use Rattle.checker.proofs.Stages.{ready-holds, stopped-is}
 
 -- what stays pending, or F where nothing does
-pub after-none : (image cases symbols cases′ symbols′ : List ℕ) (table : List Blocker) (level rest count : ℕ) → rest ≡ 0
-    → Pends 0 (finalPending (systemOf image) table level) count cases symbols cases′ symbols′
-    → Pends rest (pendingAfter (systemOf image) table level (pendingFirst cases symbols rest)) count cases symbols cases′ symbols′
+pub after-none : (initial finals : ℕ) (cases symbols cases′ symbols′ : List ℕ) (table : List Blocker) (level rest count : ℕ) → rest ≡ 0
+    → Pends 0 (finalPending initial (finals ∷ []) table level) count cases symbols cases′ symbols′
+    → Pends rest (pendingAfter initial (finals ∷ []) table level (pendingFirst cases symbols rest)) count cases symbols cases′ symbols′
 unfolding pendingAfter pendingFirst
-after-none image cases symbols cases′ symbols′ table level rest count e p = rw e p
+after-none initial finals cases symbols cases′ symbols′ table level rest count e p = rw e p
 
-pub after-some : (image cases symbols : List ℕ) (table : List Blocker) (level rest : ℕ) → (rest ≡ 0 → ⊥) → HoldsWord (rest + 1) cases symbols
-    → Pends rest (pendingAfter (systemOf image) table level (pendingFirst cases symbols rest)) rest cases symbols cases symbols
-after-some image cases symbols table level zero n holds = absurd (n refl)
-after-some image cases symbols table level (suc rest) n holds =
+pub after-some : (initial finals : ℕ) (cases symbols : List ℕ) (table : List Blocker) (level rest : ℕ) → (rest ≡ 0 → ⊥) → HoldsWord (rest + 1) cases symbols
+    → Pends rest (pendingAfter initial (finals ∷ []) table level (pendingFirst cases symbols rest)) rest cases symbols cases symbols
+after-some initial finals cases symbols table level zero n holds = absurd (n refl)
+after-some initial finals cases symbols table level (suc rest) n holds =
     subst (λ (pending : List Pending). Pends (suc rest) pending (suc rest) cases symbols cases symbols) (sym stays)
     (record {
       counted = sym (pending-length cases symbols (suc rest));
@@ -44,7 +46,7 @@ after-some image cases symbols table level (suc rest) n holds =
       new-symbols = sym (placed-symbols cases symbols (suc rest) (omega (arith, holds .in-symbols)));
     })
   where
-    stays : pendingAfter (systemOf image) table level (pendingFirst cases symbols (suc rest)) ≡ pendingFirst cases symbols (suc rest)
+    stays : pendingAfter initial (finals ∷ []) table level (pendingFirst cases symbols (suc rest)) ≡ pendingFirst cases symbols (suc rest)
     stays = unfold pendingAfter pendingFirst in refl
 
 -- the counts that grow by one still fit
@@ -55,21 +57,34 @@ module _ {run : Run} {hinted : ℕ} (count : Countable run hinted) where
   pub accepted-fit : run .accepted + hinted < 18446744073709551616
   accepted-fit = omega (arith, count .few-accepted, count .few-steps, count .one-hint)
 
+-- the record after a block, from the one that counts a step
+pub blocked-is : (run counted : Run) (held pending hinted : ℕ) → counted ≡ countedOf run 6 pending
+    → record {
+      answer = counted .answer;
+      steps = counted .steps;
+      level = counted .level;
+      opened = counted .opened;
+      held = held;
+      pending = counted .pending;
+      blocks = run .blocks + 1;
+      accepted = run .accepted + hinted;
+    }
+    ≡ blockedOf run held pending hinted
+blocked-is run counted held pending hinted e = rw e
+
 -- pending cases that were put into the tables are read from there
-pub put-read : (before : ℕ) (pending : List Pending) (cases symbols cases′ symbols′ : List ℕ) → PlacedWord before pending cases symbols cases′ symbols′
+put-read : (before : ℕ) (pending : List Pending) (cases symbols cases′ symbols′ : List ℕ) → PlacedWord before pending cases symbols cases′ symbols′
     → pendingFirst cases′ symbols′ (length pending) ≡ pending
 unfolding placed
 put-read before pending cases symbols cases′ symbols′ put =
     rw (put .new-cases, put .new-symbols, append-assoc, append-assoc)
     (read-back-pending pending _ _)
 
-module _ (image : List ℕ) (table : List Blocker) (level held hinted count : ℕ) (run : Run) (cases symbols cases₁ symbols₁ cases′ symbols′ : List ℕ)
-    (countable : Countable run hinted)
-    (popped : PlacedWord (run .pending) (pendingFirst cases symbols (run .pending - 1)) cases symbols cases₁ symbols₁)
-    (pends : Pends (run .pending - 1) (pendingAfter (systemOf image) table level (pendingFirst cases₁ symbols₁ (run .pending - 1))) count cases₁ symbols₁ cases′ symbols′) where
-  rest : ℕ
-  rest = run .pending - 1
-
+-- the lowest pending case leaves, and then the cases above it or F stand in the tables
+module _ (initial finals : ℕ) (masks levels : List ℕ) (level held hinted count : ℕ) (run : Run) (cases symbols cases₁ symbols₁ cases′ symbols′ : List ℕ)
+    (holds : Holds held masks levels) (popped : PlacedWord (run .pending) (pendingFirst cases symbols (run .pending - 1)) cases symbols cases₁ symbols₁)
+    (pends : Pends (run .pending - 1) (pendingAfter initial (finals ∷ []) (blockersIn (take held masks) (take held levels)) level (pendingFirst cases₁ symbols₁ (run .pending - 1)))
+    count cases₁ symbols₁ cases′ symbols′) where
   same-rest : pendingFirst cases₁ symbols₁ (run .pending - 1) ≡ pendingFirst cases symbols (run .pending - 1)
   same-rest =
       ap (pendingFirst cases₁ symbols₁) (sym (pending-length cases symbols (run .pending - 1)))
@@ -86,103 +101,85 @@ module _ (image : List ℕ) (table : List Blocker) (level held hinted count : �
       ∙ placed-placed (run .pending) (run .pending - 1) (columnBack field (pendingFirst cases symbols (run .pending - 1))) new before shorter
       ∙ ap (λ (k : ℕ). placed k new before) most
 
-  pub unpend-is : Unpends run held hinted (pendingAfter (systemOf image) table level (pendingFirst cases symbols (run .pending - 1)))
-      (blockedRecord run held count hinted) cases symbols cases′ symbols′
-  unpend-is =
-      let pends′ = rw same-rest at pends in
+  pub unpend-is : (r : Run) → r ≡ blockedOf run held count hinted
+      → Unpends run held hinted (pendingAfter initial (finals ∷ []) (blockersFrom masks levels held 0) level (pendingFirst cases symbols (run .pending - 1)))
+      r cases symbols cases′ symbols′
+  unpend-is r e =
+      let pends′ = rw (same-rest, part-table holds) at pends in
       record {
-        record-is = ap (λ (k : ℕ). blockedRecord run held k hinted) (pends′ .counted);
-        new-cases = both caseOf _ cases cases′ cases₁ (popped .new-cases) (pends′ .new-cases);
-        new-symbols = both symbolOf _ symbols symbols′ symbols₁ (popped .new-symbols) (pends′ .new-symbols);
+        record-is = e ∙ ap (λ (k : ℕ). blockedOf run held k hinted) (pends′ .counted);
+        cases-are = both caseOf _ cases cases′ cases₁ (popped .new-cases) (pends′ .new-cases);
+        symbols-are = both symbolOf _ symbols symbols′ symbols₁ (popped .new-symbols) (pends′ .new-symbols);
       }
 
--- a choice counts at most one hint
-chosen-once : (image : List ℕ) (table : List Blocker) (below x : ℕ) (hint : Option ℕ) → chosenFrom (systemOf image) (byStates (systemOf image)) table below x hint .hinted ≤ 1
-unfolding chosenFrom choose
-chosen-once image table below x none = omega arith
-chosen-once image table below x (some hint) = at (passes (systemOf image) table below x hint)
-  where
-    at : (b : Bool) → choose {A = Machine.Choice} b (record { mask = hint; hinted = 1 }) (record { mask = byStates (systemOf image) table below x; hinted = 0 }) .hinted ≤ 1
-    at true = omega arith
-    at false = omega arith
+-- the chosen set enters or finds no place
+module _ (initial finals : ℕ) {masks levels cases symbols : List ℕ} {run : Run} (ready : Ready (stage masks levels cases symbols run)) (below : ℕ) (choice : Choice)
+    {above : Level} (up : above .0 ≡ below + 1) {entered : Entered} {masks′ levels′ : List ℕ}
+    (enters : Enters (run .held) (record { mask = choice .mask; level = above .0 }) masks levels entered masks′ levels′) where
+  enters′ : Enters (run .held) (record { mask = choice .mask; level = suc below }) masks levels entered masks′ levels′
+  enters′ = rw (up, add-one below) at enters
 
-module _ {image : List ℕ} {head : Head} {masks levels cases symbols : List ℕ} {run : Run} (ready : Ready image head (stage masks levels cases symbols run))
-    (hints : List ℕ) (x below : ℕ) (choice : Choice)
-    (chose : choiceOf choice ≡ chosenFrom (systemOf image) (byStates (systemOf image)) (tableOf (run .held) masks levels) below x (hintAt hints (run .blocks))) where
-  pub block-countable : 1 ≤ run .pending → run .steps < 18446744073709551615 → Countable run (choice .hinted)
-  block-countable one few =
+  pub block-full : {cases′ symbols′ : List ℕ} {r : Run} → entered ≡ Full → Leaves run (leftOf run 3 0) [] [] r cases symbols cases′ symbols′
+      → stage masks′ levels′ cases′ symbols′ r
+      ≡ madeBy (λ (c : Configuration). blockStep initial (finals ∷ []) c (pendingFirst cases symbols (run .pending - 1)) below (choiceOf choice))
+      (stage masks levels cases symbols run)
+  unfolding madeBy judge choose blockStep entering numberOf symbolsIn
+  block-full e leaves =
+      rw (full-masks enters′ e (ready-holds ready), full-levels enters′ e (ready-holds ready))
+      (stopped-is ready (blockersLack (configurationOf (stage masks levels cases symbols run))) refl refl leaves ∙ sym (rw (full-room enters′ e)))
+
+  module _ {held : ℕ} (e : entered ≡ Held held) where
+    new : List Blocker
+    new = entering (record { mask = choice .mask; level = suc below }) (blockersFrom masks levels (run .held) 0)
+
+    new-fits : length new ≤ length masks
+    unfolding new
+    new-fits = omega (arith, held-fits enters′ e, held-count enters′ e)
+
+    pub block-holds : Holds held masks′ levels′
+    unfolding new
+    block-holds =
+        let long = placed-masks-length new (held-placed enters′ e) (ready .held-fits) new-fits in
+        let wide = placed-levels-length new (held-placed enters′ e) (omega (arith, ready .held-fits, ready .blocker-room)) (omega (arith, new-fits, ready .blocker-room)) in
+        record { in-masks = omega (arith, held-fits enters′ e); in-levels = omega (arith, held-fits enters′ e, ready .blocker-room) }
+
+    table-is : blockersFrom masks′ levels′ held 0 ≡ new
+    unfolding new
+    table-is = ap (λ (k : ℕ). blockersFrom masks′ levels′ k 0) (held-count enters′ e) ∙ placed-table new (held-placed enters′ e)
+
+    pub block-held : {cases′ symbols′ : List ℕ} {r : Run}
+        → Unpends run held (choice .hinted) (pendingAfter initial (finals ∷ []) (blockersFrom masks′ levels′ held 0) (run .level .0) (pendingFirst cases symbols (run .pending - 1)))
+        r cases symbols cases′ symbols′
+        → stage masks′ levels′ cases′ symbols′ r
+        ≡ madeBy (λ (c : Configuration). blockStep initial (finals ∷ []) c (pendingFirst cases symbols (run .pending - 1)) below (choiceOf choice))
+        (stage masks levels cases symbols run)
+    unfolding madeBy judge choose blockStep entering after tablesAfter casesIn symbolsIn recordOf numberOf pendingOf new
+    block-held leaves =
+        let leaves′ = rw table-is at leaves in
+        rw (held-placed enters′ e .new-masks, held-placed enters′ e .new-levels, leaves′ .cases-are, leaves′ .symbols-are, leaves′ .record-is, held-count enters′ e, add-one (run .steps), add-one (run .blocks))
+        (sym (rw (held-room enters′ e)))
+
+-- the choice is the machine's
+module _ {image : List ℕ} {head : Head} {masks levels cases symbols : List ℕ} {run : Run} (read : ReadAs image head)
+    (ready : Ready (stage masks levels cases symbols run)) (hints : List ℕ) (below X : ℕ) (choice : Choice)
+    (chose : choiceOf choice ≡ chosenFrom (systemOf image) (byStates (systemOf image)) (blockersIn (take (run .held) masks) (take (run .held) levels)) below X (hintAt hints (run .blocks))) where
+  chosen-here : chosen (systemOf image) (givenOf image (hintsOf hints)) (configurationOf (stage masks levels cases symbols run)) below X ≡ choiceOf choice
+  unfolding chosen
+  chosen-here = sym (chose ∙ rw (part-table (ready-holds ready)))
+
+  pub block-countable : run .steps < 18446744073709551615 → Countable run (choice .hinted)
+  block-countable few =
       record {
-        some-pending = one;
         few-steps = few;
         few-blocks = ready .blocks-fit;
         few-accepted = ready .hints-fit;
-        one-hint = subst (λ (k : ℕ). k ≤ 1) (sym (ap (λ (made : Machine.Choice). made .hinted) chose))
-            (chosen-once image (tableOf (run .held) masks levels) below x (hintAt hints (run .blocks)));
+        one-hint = subst (λ (made : Machine.Choice). made .hinted ≤ 1) chosen-here
+            (chosen-hinted (chosen-is (systemOf image) (givenOf image (hintsOf hints)) (configurationOf (stage masks levels cases symbols run)) below X));
       }
 
-  module _ {entered : Entered} {masks′ levels′ : List ℕ}
-      (enters : Enters (run .held) (record { mask = choice .mask; level = below + 1 }) masks levels entered masks′ levels′) where
-    at : Stage
-    at = stage masks levels cases symbols run
-
-    enters′ : Enters (run .held) (record { mask = choice .mask; level = suc below }) masks levels entered masks′ levels′
-    enters′ = rw add-one at enters
-
-    pub block-full : {cases′ symbols′ : List ℕ} {r : Run} → entered ≡ Full → Stopped run 3 r cases symbols cases′ symbols′
-        → stage masks′ levels′ cases′ symbols′ r
-        ≡ judged (stage masks levels cases symbols run)
-        (blockStep (systemOf image) (configurationOf (stage masks levels cases symbols run)) (pendingFirst cases symbols (run .pending - 1)) below
-        (chosen (systemOf image) (byStates (systemOf image)) hints (configurationOf (stage masks levels cases symbols run)) below x))
-    unfolding judged judge ifRoom blockStep after chosen entering
-    block-full e stopped =
-        rw (full-masks enters′ e (ready-given ready .holds), full-levels enters′ e (ready-given ready .holds))
-        (stopped-is ready stopped ∙ sym (rw (← chose, full-room enters′ e)))
-
-    module _ {held : ℕ} (e : entered ≡ Held held) where
-      new : List Blocker
-      new = entering (record { mask = choice .mask; level = suc below }) (tableOf (run .held) masks levels)
-
-      new-fits : length new ≤ length masks
-      unfolding new
-      new-fits = omega (arith, held-fits enters′ e, held-count enters′ e)
-
-      pub block-given : Given image head masks′ levels′ held
-      unfolding new
-      block-given =
-          let long = placed-masks-length new (held-placed enters′ e) (ready .held-fits) new-fits in
-          let wide = placed-levels-length new (held-placed enters′ e) (omega (arith, ready .held-fits, ready .blocker-room)) (omega (arith, new-fits, ready .blocker-room)) in
-          record {
-            valid = ready .valid;
-            read = ready .read;
-            holds = record { in-masks = omega (arith, held-fits enters′ e); in-levels = omega (arith, held-fits enters′ e, ready .blocker-room) };
-          }
-
-      table-is : tableOf held masks′ levels′ ≡ new
-      unfolding new
-      table-is = ap (λ (k : ℕ). tableOf k masks′ levels′) (held-count enters′ e) ∙ placed-table new (held-placed enters′ e)
-
-      pub block-held : {cases′ symbols′ : List ℕ} {r : Run}
-          → Unpends run held (choice .hinted) (pendingAfter (systemOf image) (tableOf held masks′ levels′) (run .level .0) (pendingFirst cases symbols (run .pending - 1))) r cases symbols cases′ symbols′
-          → stage masks′ levels′ cases′ symbols′ r
-          ≡ judged (stage masks levels cases symbols run)
-          (blockStep (systemOf image) (configurationOf (stage masks levels cases symbols run)) (pendingFirst cases symbols (run .pending - 1)) below
-          (chosen (systemOf image) (byStates (systemOf image)) hints (configurationOf (stage masks levels cases symbols run)) below x))
-      unfolding judged judge ifRoom blockStep after chosen entering left new
-      block-held unpends =
-          let pending : List Pending = pendingAfter (systemOf image) new (run .level .0) (pendingFirst cases symbols (run .pending - 1)) in
-          let unpends′ = rw table-is at unpends in
-          stage-same {run′ = made-record} (held-placed enters′ e .new-masks) (held-placed enters′ e .new-levels) (unpends′ .new-cases) (unpends′ .new-symbols)
-          (unpends′ .record-is ∙ rw (add-one (run .steps), add-one (run .blocks), held-count enters′ e, column-back-length caseOf pending))
-          ∙ sym (rw (← chose, held-room enters′ e))
-        where
-          made-record : Run
-          made-record = record {
-            answer = 6;
-            steps = suc (run .steps);
-            level = run .level;
-            opened = run .opened;
-            held = length new;
-            pending = length (columnBack caseOf (pendingAfter (systemOf image) new (run .level .0) (pendingFirst cases symbols (run .pending - 1))));
-            blocks = suc (run .blocks);
-            accepted = run .accepted + choice .hinted;
-          }
+  pub block-is : {later : Stage}
+      → later ≡ madeBy (λ (c : Configuration). blockStep (head .initial) (head .finals ∷ []) c (pendingFirst cases symbols (run .pending - 1)) below (choiceOf choice))
+      (stage masks levels cases symbols run)
+      → later ≡ madeBy (blockOf image hints (pendingFirst cases symbols (run .pending - 1)) below X) (stage masks levels cases symbols run)
+  unfolding madeBy blockOf
+  block-is made = made ∙ rw (read .read, chosen-here)

@@ -9,47 +9,47 @@ use lib.Dec.{eqb, eqb→eq}
 use lib.ListN.{length, replicate, length-replicate, drop-of-length-le}
 use Rattle.lists.specs.Tests.{_or_, neg}
 use Rattle.lists.proofs.Tests.{is-false, or-left, or-right, neg-neg}
-use Rattle.automata.specs.Image.{Valid, check, checkImage}
+use Rattle.automata.specs.Image.{check, checkImage}
 use Rattle.automata.specs.Answers.{readWith, readImage}
 use Rattle.automata.specs.declared.image.Head.{Head}
 use Rattle.automata.specs.declared.image.Image.{Image}
 use Rattle.automata.specs.declared.image.Image.the-variants as Answer
 use Rattle.automata.proofs.WordTests.{answer-valid, answer-head}
-use Rattle.machine.specs.Machine.{Configuration, byStates, machine, Outcome, nonempty, empty, stepsLack, blockersLack, wordLacks}
+use Rattle.machine.specs.Machine.{Next, comesTo}
 use Rattle.machine.specs.Lent.{column, maskOf, levelOf, placed}
-use Rattle.machine.specs.Runs.{Result, systemOf, roomsOf, refused, ended, resultOf, oddRooms, oversize, checkRooms, checkRun, outcomeOf, runWith, runOf}
+use Rattle.machine.specs.Runs.{Lent, Result, roomsOf, refused, casesIn, symbolsIn, tablesAfter, resultOf, oddRooms, oversize, checkRooms, checkRun, endOf, runWith, runOf}
 use Rattle.machine.proofs.RunsKept.{check-fails}
-use Rattle.checker.specs.declared.record.Run.{Run}
 use Rattle.checker.specs.declared.run.Counts.{Counts}
-use Rattle.checker.specs.Whole.{Checked, Cleared, Runnable, lentOf, countsIn, resultWith, machineResult}
+use Rattle.checker.specs.Stage.{lentOf, termsOf}
+use Rattle.checker.specs.Whole.{Checked, Cleared, Runnable, resultWith, machineResult}
 
 -- the rooms' checks, each from the tests before it
 module _ (masks levels cases symbols hints : List ℕ) where
-  pub odd-blockers : (length masks ≡ length levels → ⊥) → 30 ≡ checkRooms (lentOf masks levels cases symbols) hints 0
+  pub odd-blockers : (length masks ≡ length levels → ⊥) → 30 ≡ checkRooms (lentOf masks levels cases symbols) (termsOf hints 0) 0
   unfolding checkRooms check oddRooms _or_ neg
   odd-blockers n = rw (ne-eqb _ _ n)
 
   module _ (even : length masks ≡ length levels) where
-    pub odd-word : (length cases ≡ length symbols → ⊥) → 30 ≡ checkRooms (lentOf masks levels cases symbols) hints 0
+    pub odd-word : (length cases ≡ length symbols → ⊥) → 30 ≡ checkRooms (lentOf masks levels cases symbols) (termsOf hints 0) 0
     unfolding checkRooms check oddRooms _or_ neg
     odd-word n = rw (eq-eqb _ _ even, ne-eqb _ _ n)
 
     module _ (even-word : length cases ≡ length symbols) where
-      pub over-blockers : 65536 < length masks → 31 ≡ checkRooms (lentOf masks levels cases symbols) hints 0
+      pub over-blockers : 65536 < length masks → 31 ≡ checkRooms (lentOf masks levels cases symbols) (termsOf hints 0) 0
       unfolding checkRooms check oddRooms oversize _or_ neg
       over-blockers l = rw (eq-eqb _ _ even, eq-eqb _ _ even-word, lt-ltb _ _ l)
 
       module _ (few : length masks ≤ 65536) where
-        pub over-word : 65536 < length cases → 31 ≡ checkRooms (lentOf masks levels cases symbols) hints 0
+        pub over-word : 65536 < length cases → 31 ≡ checkRooms (lentOf masks levels cases symbols) (termsOf hints 0) 0
         unfolding checkRooms check oddRooms oversize _or_ neg
         over-word l = rw (eq-eqb _ _ even, eq-eqb _ _ even-word, le-ltb _ _ few, lt-ltb _ _ l)
 
         module _ (few-word : length cases ≤ 65536) where
-          pub over-hints : 65536 < length hints → 31 ≡ checkRooms (lentOf masks levels cases symbols) hints 0
+          pub over-hints : 65536 < length hints → 31 ≡ checkRooms (lentOf masks levels cases symbols) (termsOf hints 0) 0
           unfolding checkRooms check oddRooms oversize _or_ neg
           over-hints l = rw (eq-eqb _ _ even, eq-eqb _ _ even-word, le-ltb _ _ few, le-ltb _ _ few-word, lt-ltb _ _ l)
 
-          pub rooms-pass : length hints ≤ 65536 → 0 ≡ checkRooms (lentOf masks levels cases symbols) hints 0
+          pub rooms-pass : length hints ≤ 65536 → 0 ≡ checkRooms (lentOf masks levels cases symbols) (termsOf hints 0) 0
           unfolding checkRooms check oddRooms oversize _or_ neg
           rooms-pass l = rw (eq-eqb _ _ even, eq-eqb _ _ even-word, le-ltb _ _ few, le-ltb _ _ few-word, le-ltb _ _ l)
 
@@ -78,8 +78,7 @@ module _ {image : List ℕ} {head : Head} {masks levels cases symbols masks′ l
   pub cleared-runnable : Runnable image head masks′ levels′ cases′ symbols′
   cleared-runnable =
       record {
-        valid = runnable .valid;
-        read = runnable .read;
+        image-read = runnable .image-read;
         rooms = record {
           blocker-room = zeros-length masks masks′ (cleared .new-masks) ∙ runnable .rooms .blocker-room ∙ sym (zeros-length levels levels′ (cleared .new-levels));
           word-room = zeros-length cases cases′ (cleared .new-cases) ∙ runnable .rooms .word-room ∙ sym (zeros-length symbols symbols′ (cleared .new-symbols));
@@ -97,37 +96,36 @@ module _ {image : List ℕ} {head : Head} {masks levels cases symbols masks′ l
       }
 
   -- the result in the cleared tables is the result in those that were lent
-  ended-cleared : (number : ℕ) (word : List ℕ) (c : Configuration) → ended (lentOf masks′ levels′ cases′ symbols′) number word c ≡ ended (lentOf masks levels cases symbols) number word c
-  unfolding ended
-  ended-cleared number word c =
+  other-places : (size size′ : ℕ) (before after new : List ℕ) → size ≡ length before → size′ ≡ length after → after ≡ placed (length before) [] before
+      → placed size′ new after ≡ placed size new before
+  other-places size size′ before after new e e′ z =
+      ap (λ (k : ℕ). placed k new after) e′ ∙ placed-zeros before after new z ∙ ap (λ (k : ℕ). placed k new before) (sym e)
+
+  result-cleared : (n : Next) → resultOf (lentOf masks′ levels′ cases′ symbols′) n ≡ resultOf (lentOf masks levels cases symbols) n
+  unfolding resultOf tablesAfter
+  result-cleared n =
+      let rooms = runnable .rooms in
+      let rooms′ = cleared-runnable .rooms in
       rw (
-        placed-zeros masks masks′ (column maskOf (c .table)) (cleared .new-masks),
-        placed-zeros levels levels′ (column levelOf (c .table)) (cleared .new-levels),
-        placed-zeros cases cases′ [] (cleared .new-cases),
-        placed-zeros symbols symbols′ word (cleared .new-symbols),
+        placed-zeros masks masks′ (column maskOf (comesTo n .table)) (cleared .new-masks),
+        other-places (length masks) (length masks′) levels levels′ (column levelOf (comesTo n .table)) (rooms .blocker-room) (rooms′ .blocker-room) (cleared .new-levels),
+        placed-zeros cases cases′ (casesIn n) (cleared .new-cases),
+        other-places (length cases) (length cases′) symbols symbols′ (symbolsIn n) (rooms .word-room) (rooms′ .word-room) (cleared .new-symbols),
       )
 
-  result-cleared : (outcome : Outcome) → resultOf (lentOf masks′ levels′ cases′ symbols′) outcome ≡ resultOf (lentOf masks levels cases symbols) outcome
-  unfolding resultOf
-  result-cleared (empty c) = ended-cleared 0 [] c
-  result-cleared (nonempty word c) = ended-cleared 1 word c
-  result-cleared (stepsLack c) = ended-cleared 2 [] c
-  result-cleared (blockersLack c) = ended-cleared 3 [] c
-  result-cleared (wordLacks c) = ended-cleared 4 [] c
-
-  pub go-is : (hints : List ℕ) (allowance : ℕ) (run : Run) {r : Counts} {end-masks end-levels end-cases end-symbols : List ℕ} → r ≡ countsIn run
-      → resultWith (countsIn run) end-masks end-levels end-cases end-symbols ≡ machineResult image (lentOf masks′ levels′ cases′ symbols′) hints allowance
-      → resultWith r end-masks end-levels end-cases end-symbols ≡ machineResult image (lentOf masks levels cases symbols) hints allowance
-  unfolding machineResult outcomeOf
-  go-is hints allowance run {end-masks = em} {end-levels = el} {end-cases = ec} {end-symbols = es} counts e =
-      ap (λ (x : Counts). resultWith x em el ec es) counts
+  pub go-is : (hints : List ℕ) (allowance : ℕ) {counts r : Counts} {end-masks end-levels end-cases end-symbols : List ℕ} → r ≡ counts
+      → resultWith counts end-masks end-levels end-cases end-symbols ≡ machineResult image (lentOf masks′ levels′ cases′ symbols′) (termsOf hints allowance)
+      → resultWith r end-masks end-levels end-cases end-symbols ≡ machineResult image (lentOf masks levels cases symbols) (termsOf hints allowance)
+  unfolding machineResult
+  go-is hints allowance {end-masks = em} {end-levels = el} {end-cases = ec} {end-symbols = es} same e =
+      ap (λ (x : Counts). resultWith x em el ec es) same
       ∙ e
-      ∙ result-cleared (machine (systemOf image) (byStates (systemOf image)) hints (roomsOf (lentOf masks′ levels′ cases′ symbols′)) allowance)
-      ∙ ap₂ (λ (b w : ℕ). resultOf (lentOf masks levels cases symbols) (machine (systemOf image) (byStates (systemOf image)) hints (record { blockers = b; word = w }) allowance))
+      ∙ result-cleared (endOf image (roomsOf (lentOf masks′ levels′ cases′ symbols′)) (termsOf hints allowance))
+      ∙ ap₂ (λ (b w : ℕ). resultOf (lentOf masks levels cases symbols) (endOf image (record { blockers = b; word = w }) (termsOf hints allowance)))
       (zeros-length masks masks′ (cleared .new-masks)) (zeros-length cases cases′ (cleared .new-cases))
 
--- what the rooms' checks leave where none applies
-rooms-checked : (masks levels cases symbols hints : List ℕ) → checkRooms (lentOf masks levels cases symbols) hints 0 ≡ 0 → Checked masks levels cases symbols
+-- what the rooms' checks leave where none applies; they do not look at the allowance
+rooms-checked : (masks levels cases symbols hints : List ℕ) → checkRooms (lentOf masks levels cases symbols) (termsOf hints 0) 0 ≡ 0 → Checked masks levels cases symbols
 unfolding checkRooms oddRooms oversize
 rooms-checked masks levels cases symbols hints e =
     let odd = check-fails _ _ _ e in
@@ -138,44 +136,56 @@ rooms-checked masks levels cases symbols hints e =
       few-places = ltb-false 65536 (length cases) (is-false _ (λ t. over .0 (or-right _ _ (or-left _ _ t))));
     }
 
+any-allowance : (lent : Lent) (hints : List ℕ) (allowance : ℕ) → checkRooms lent (termsOf hints allowance) 0 ≡ checkRooms lent (termsOf hints 0) 0
+unfolding checkRooms
+any-allowance lent hints allowance = refl
+
+-- a valid image and rooms that pass their checks
+pub run-runnable : (image masks levels cases symbols hints : List ℕ) (answer : Image) → answer ≡ readImage image → (head : Head) → answer ≡ Answer.Valid head
+    → (number : ℕ) → number ≡ checkRooms (lentOf masks levels cases symbols) (termsOf hints 0) 0 → number ≡ 0 → Runnable image head masks levels cases symbols
+run-runnable image masks levels cases symbols hints answer read head e number rooms z =
+    record {
+      image-read = record { valid = answer-valid image answer read head e; read = answer-head image answer read head e };
+      rooms = rooms-checked masks levels cases symbols hints (sym rooms ∙ z);
+    }
+
+-- the counts of a refused run
+abbrev refusal : ℕ → Counts
+refusal number = record { number = number; steps = 0; level = record { 0 = 0 }; blockers = 0; accepted = 0 }
+
 -- the whole run, by its checks
 module _ (image masks levels cases symbols hints : List ℕ) (allowance : ℕ) (answer : Image) (read : answer ≡ readImage image) where
-  pub run-refuses-image : (number : ℕ) (r : Counts) → answer ≡ Answer.Refused number → r ≡ record { number = number; steps = 0; level = 0; blockers = 0; accepted = 0 }
-      → resultWith r masks levels cases symbols ≡ runOf image (lentOf masks levels cases symbols) hints allowance
-  unfolding runOf checkRun readImage readWith runWith checkRooms refused
-  run-refuses-image number r e q = rw q (at (checkImage image) (sym read ∙ e))
+  refused-result : (number : ℕ) → (number ≡ 0 → ⊥) → checkRun image (lentOf masks levels cases symbols) (termsOf hints allowance) ≡ number
+      → resultWith (refusal number) masks levels cases symbols ≡ runOf image (lentOf masks levels cases symbols) (termsOf hints allowance)
+  unfolding runOf runWith refused
+  refused-result zero n e = absurd (n refl)
+  refused-result (suc number) n e = sym (rw e)
+
+  pub run-refuses-image : (number : ℕ) (r : Counts) → answer ≡ Answer.Refused number → r ≡ refusal number
+      → resultWith r masks levels cases symbols ≡ runOf image (lentOf masks levels cases symbols) (termsOf hints allowance)
+  unfolding checkRun readImage readWith checkRooms
+  run-refuses-image number r e q = at (checkImage image) (sym read ∙ e) refl
     where
-      at : (checked : ℕ) → readWith image checked ≡ Answer.Refused number
-          → resultWith (record { number = number; steps = 0; level = 0; blockers = 0; accepted = 0 }) masks levels cases symbols
-          ≡ runWith image (lentOf masks levels cases symbols) hints allowance (checkRooms (lentOf masks levels cases symbols) hints checked)
-      at zero f = let z : _≡_ {A = ℕ} 0 1 = cc in absurd (omega arith)
-      at (suc checked) f = let z : suc checked ≡ number = cc in rw (← z)
+      at : (checked : ℕ) → readWith image checked ≡ Answer.Refused number → checkImage image ≡ checked
+          → resultWith r masks levels cases symbols ≡ runOf image (lentOf masks levels cases symbols) (termsOf hints allowance)
+      at zero f c = let z : _≡_ {A = ℕ} 0 1 = cc in absurd (omega arith)
+      at (suc checked) f c =
+          let z : suc checked ≡ number = cc in
+          ap (λ (x : Counts). resultWith x masks levels cases symbols) q
+          ∙ refused-result number (λ none. omega (arith, z)) (rw c z)
 
-  module _ (head : Head) (e : answer ≡ Answer.Valid head) (number : ℕ) (rooms : number ≡ checkRooms (lentOf masks levels cases symbols) hints 0) where
-    checked-is : checkRun image (lentOf masks levels cases symbols) hints ≡ number
+  module _ (head : Head) (e : answer ≡ Answer.Valid head) (number : ℕ) (rooms : number ≡ checkRooms (lentOf masks levels cases symbols) (termsOf hints 0) 0) where
+    checked-is : checkRun image (lentOf masks levels cases symbols) (termsOf hints allowance) ≡ number
     unfolding checkRun
-    checked-is = ap (checkRooms (lentOf masks levels cases symbols) hints) (answer-valid image answer read head e) ∙ sym rooms
+    checked-is =
+        ap (checkRooms (lentOf masks levels cases symbols) (termsOf hints allowance)) (answer-valid image answer read head e)
+        ∙ any-allowance (lentOf masks levels cases symbols) hints allowance ∙ sym rooms
 
-    pub run-refuses-rooms : (r : Counts) → (number ≡ 0 → ⊥) → r ≡ record { number = number; steps = 0; level = 0; blockers = 0; accepted = 0 }
-        → resultWith r masks levels cases symbols ≡ runOf image (lentOf masks levels cases symbols) hints allowance
-    unfolding runOf runWith refused
-    run-refuses-rooms r n q = rw q (at number checked-is n)
-      where
-        at : (k : ℕ) → checkRun image (lentOf masks levels cases symbols) hints ≡ k → (k ≡ 0 → ⊥)
-            → resultWith (record { number = k; steps = 0; level = 0; blockers = 0; accepted = 0 }) masks levels cases symbols
-            ≡ runWith image (lentOf masks levels cases symbols) hints allowance (checkRun image (lentOf masks levels cases symbols) hints)
-        at zero f m = absurd (m refl)
-        at (suc k) f m = rw f
+    pub run-refuses-rooms : (r : Counts) → (number ≡ 0 → ⊥) → r ≡ refusal number
+        → resultWith r masks levels cases symbols ≡ runOf image (lentOf masks levels cases symbols) (termsOf hints allowance)
+    run-refuses-rooms r n q = ap (λ (x : Counts). resultWith x masks levels cases symbols) q ∙ refused-result number n checked-is
 
-    pub run-runnable : number ≡ 0 → Runnable image head masks levels cases symbols
-    run-runnable z =
-        record {
-          valid = answer-valid image answer read head e;
-          read = answer-head image answer read head e;
-          rooms = rooms-checked masks levels cases symbols hints (sym rooms ∙ z);
-        }
-
-    pub run-goes : (result : Result) → number ≡ 0 → result ≡ machineResult image (lentOf masks levels cases symbols) hints allowance
-        → result ≡ runOf image (lentOf masks levels cases symbols) hints allowance
+    pub run-goes : (result : Result) → number ≡ 0 → result ≡ machineResult image (lentOf masks levels cases symbols) (termsOf hints allowance)
+        → result ≡ runOf image (lentOf masks levels cases symbols) (termsOf hints allowance)
     unfolding runOf runWith machineResult
     run-goes result z made = made ∙ sym (rw (checked-is ∙ z))

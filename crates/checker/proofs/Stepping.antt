@@ -1,59 +1,71 @@
 -- Which step is made: the allowance is used up, a case is pending, the level is open, or it is not. Assumes nothing.
-use Prim.Native.Nat.{ℕ, suc, _-_, _≤_, _<_}
-use mathlib.Core.Path.{_≡_, sym, ap, ap₂, _∙_}
+use Prim.Native.Nat.{ℕ, _≤_, _<_}
+use mathlib.Core.Path.{_≡_, refl, sym, ap, ap₂, _∙_}
 use mathlib.Core.Bool.{Bool, true, false}
-use mathlib.Core.List.{List, []}
+use mathlib.Core.List.{List, [], _∷_}
 use native.Mathlib.Omega.{arith}
-use borrow.Author.Tests.{le-leb, lt-leb}
+use borrow.Author.Tests.{lt-ltb, le-ltb}
+use Rattle.lists.specs.Tests.{choose}
 use Rattle.automata.specs.declared.image.Head.{Head}
-use Rattle.machine.specs.Machine.{byStates, openStep, workStep, closeStep, stepOn, step}
+use Rattle.machine.specs.Machine.{Pending, Configuration, openStep, closeStep, stepOn, step, Step, stepsLack, judge, advance}
 use Rattle.machine.specs.Lent.{pendingFirst}
-use Rattle.machine.specs.Runs.{systemOf}
+use Rattle.machine.specs.Runs.{systemOf, givenOf, roomsOf, numberOf, symbolsIn}
+use Rattle.machine.specs.Records.{Stage, configurationOf, after, stepOf}
+use Rattle.machine.proofs.Steps.{step-raised}
+use Rattle.choices.specs.Found.{ReadAs}
 use Rattle.checker.specs.declared.record.Run.{Run}
-use Rattle.checker.specs.Stage.{Stage, stage, configurationOf, after, judged, testedStep, stepOf, Ready, Stopped, lowestPending}
+use Rattle.checker.specs.Stage.{stage, termsOf, hintsOf, madeBy, Ready, leftOf, Leaves}
 use Rattle.checker.proofs.Stages.{stopped-is}
 
-module _ {image : List ℕ} {head : Head} {masks levels cases symbols : List ℕ} {run : Run} (ready : Ready image head (stage masks levels cases symbols run))
-    (hints : List ℕ) (allowance : ℕ) where
-  pub step-stops : {cases′ symbols′ : List ℕ} {r : Run} → allowance ≤ run .steps → Stopped run 2 r cases symbols cases′ symbols′
-      → stage masks levels cases′ symbols′ r ≡ stepOf image hints allowance (stage masks levels cases symbols run)
-  unfolding stepOf testedStep after
-  step-stops l stopped = stopped-is ready stopped ∙ sym (rw (le-leb allowance (run .steps) l))
+module _ {image : List ℕ} {head : Head} {masks levels cases symbols : List ℕ} {run : Run} (read : ReadAs image head)
+    (ready : Ready (stage masks levels cases symbols run)) (hints : List ℕ) (allowance : ℕ) where
+  pub step-stops : {cases′ symbols′ : List ℕ} {r : Run} → allowance ≤ run .steps → Leaves run (leftOf run 2 0) [] [] r cases symbols cases′ symbols′
+      → stage masks levels cases′ symbols′ r ≡ stepOf image (termsOf hints allowance) (stage masks levels cases symbols run)
+  unfolding stepOf advance choose numberOf symbolsIn
+  step-stops l leaves =
+      stopped-is ready (stepsLack (configurationOf (stage masks levels cases symbols run))) refl refl leaves ∙ sym (rw (le-ltb (run .steps) allowance l))
 
-  module _ (left : run .steps < allowance) where
-    pub step-works : {after-step : Stage} → 0 < run .pending
-        → after-step ≡ judged (stage masks levels cases symbols run)
-        (workStep (systemOf image) (byStates (systemOf image)) hints (configurationOf (stage masks levels cases symbols run))
-        (lowestPending cases symbols (run .pending - 1)) (pendingFirst cases symbols (run .pending - 1)))
-        → after-step ≡ stepOf image hints allowance (stage masks levels cases symbols run)
-    unfolding stepOf testedStep step stepOn pendingFirst
-    step-works some made =
-        let e : run .pending ≡ suc (run .pending - 1) = omega arith in
-        made ∙ sym (rw (lt-leb allowance (run .steps) left) (ap (λ (k : ℕ). judged (stage masks levels cases symbols run)
-        (stepOn (systemOf image) (byStates (systemOf image)) hints (configurationOf (stage masks levels cases symbols run)) (pendingFirst cases symbols k) (run .opened))) e))
+  module _ (allowed : run .steps < allowance) where
+    -- within the allowance a step is the machine's step
+    step-is : madeBy (step (systemOf image) (givenOf image (hintsOf hints))) (stage masks levels cases symbols run)
+        ≡ stepOf image (termsOf hints allowance) (stage masks levels cases symbols run)
+    unfolding madeBy stepOf advance choose
+    step-is =
+        ap (λ (st : Step). after (stage masks levels cases symbols run) (judge (roomsOf (stage masks levels cases symbols run .tables)) (configurationOf (stage masks levels cases symbols run)) st))
+        (sym (step-raised (systemOf image) allowance (givenOf image (hintsOf hints)) (configurationOf (stage masks levels cases symbols run))))
+        ∙ sym (rw (lt-ltb (run .steps) allowance allowed))
+
+    pub step-works : {later : Stage} → later ≡ madeBy (step (systemOf image) (givenOf image (hintsOf hints))) (stage masks levels cases symbols run)
+        → later ≡ stepOf image (termsOf hints allowance) (stage masks levels cases symbols run)
+    step-works made = made ∙ step-is
 
     module _ (nothing : run .pending ≤ 0) where
-      none-pending : pendingFirst cases symbols (run .pending) ≡ []
-      unfolding pendingFirst
-      none-pending = let e : run .pending ≡ 0 = omega arith in ap (pendingFirst cases symbols) e
-
+      -- with nothing pending, by whether the level is open
       on : (isOpen : Bool) → run .opened ≡ isOpen
-          → stepOf image hints allowance (stage masks levels cases symbols run)
-          ≡ judged (stage masks levels cases symbols run) (stepOn (systemOf image) (byStates (systemOf image)) hints (configurationOf (stage masks levels cases symbols run)) [] isOpen)
-      unfolding stepOf testedStep step
+          → step (systemOf image) (givenOf image (hintsOf hints)) (configurationOf (stage masks levels cases symbols run))
+          ≡ stepOn (systemOf image) (givenOf image (hintsOf hints)) (configurationOf (stage masks levels cases symbols run)) [] isOpen
+      unfolding step pendingFirst
       on isOpen e =
-          rw (lt-leb allowance (run .steps) left)
-          (ap₂ (λ pending opened. judged (stage masks levels cases symbols run)
-          (stepOn (systemOf image) (byStates (systemOf image)) hints (configurationOf (stage masks levels cases symbols run)) pending opened)) none-pending e)
+          let none : run .pending ≡ 0 = omega arith in
+          ap₂ (λ (pending : List Pending) (opened : Bool).
+          stepOn (systemOf image) (givenOf image (hintsOf hints)) (configurationOf (stage masks levels cases symbols run)) pending opened)
+          (ap (pendingFirst cases symbols) none) e
 
-      pub step-closes : {after-step : Stage} → run .opened ≡ true
-          → after-step ≡ judged (stage masks levels cases symbols run) (closeStep (systemOf image) (configurationOf (stage masks levels cases symbols run)))
-          → after-step ≡ stepOf image hints allowance (stage masks levels cases symbols run)
-      unfolding stepOn
-      step-closes e made = made ∙ sym (on true e)
+      made-on : (isOpen : Bool) → run .opened ≡ isOpen
+          → madeBy (λ (c : Configuration). stepOn (systemOf image) (givenOf image (hintsOf hints)) c [] isOpen) (stage masks levels cases symbols run)
+          ≡ stepOf image (termsOf hints allowance) (stage masks levels cases symbols run)
+      unfolding madeBy
+      made-on isOpen e =
+          ap (λ (st : Step). after (stage masks levels cases symbols run) (judge (roomsOf (stage masks levels cases symbols run .tables)) (configurationOf (stage masks levels cases symbols run)) st))
+          (sym (on isOpen e))
+          ∙ step-is
 
-      pub step-opens : {after-step : Stage} → run .opened ≡ false
-          → after-step ≡ judged (stage masks levels cases symbols run) (openStep (systemOf image) (configurationOf (stage masks levels cases symbols run)))
-          → after-step ≡ stepOf image hints allowance (stage masks levels cases symbols run)
-      unfolding stepOn
-      step-opens e made = made ∙ sym (on false e)
+      pub step-closes : {later : Stage} → run .opened ≡ true → later ≡ madeBy (closeStep (systemOf image)) (stage masks levels cases symbols run)
+          → later ≡ stepOf image (termsOf hints allowance) (stage masks levels cases symbols run)
+      unfolding stepOn madeBy
+      step-closes e made = made ∙ made-on true e
+
+      pub step-opens : {later : Stage} → run .opened ≡ false → later ≡ madeBy (openStep (head .initial) (head .finals ∷ [])) (stage masks levels cases symbols run)
+          → later ≡ stepOf image (termsOf hints allowance) (stage masks levels cases symbols run)
+      unfolding stepOn madeBy
+      step-opens e made = made ∙ rw (read .read) (made-on false e)

@@ -1,13 +1,13 @@
 -- The ways through the work on a pending case: a word is found, one more case becomes pending, or no symbol qualifies. Assumes nothing.
 use Prim.Native.Nat.{ℕ, zero, suc, _+_, _-_, _≤_, _<_}
-use mathlib.Core.Path.{_≡_, refl, sym, ap, ap₂, _∙_}
+use mathlib.Core.Path.{_≡_, refl, sym, ap, ap₂, subst, _∙_}
 use mathlib.Core.Bool.{Bool, true, false}
 use mathlib.Core.List.{List, [], _∷_}
 use mathlib.Core.Option.{Option, none, some}
 use native.Mathlib.Numerals.{add-one}
 use native.Mathlib.Omega.{arith}
 use lib.Dec.{T}
-use lib.ListN.{length, getD}
+use lib.ListN.{length, take, getD}
 use Rattle.lists.specs.Tests.{_or_}
 use Rattle.lists.specs.Lists.{firstFrom}
 use Rattle.lists.proofs.Tests.{fails, or-right, neg-fails, fails-neg}
@@ -17,19 +17,21 @@ use Rattle.automata.specs.Image.{symbolsOf, initialOf}
 use Rattle.automata.specs.declared.image.Head.{Head}
 use Rattle.automata.specs.declared.image.Symbol.{Symbol}
 use Rattle.machine.specs.System.{System}
-use Rattle.machine.specs.Machine.{Pending, Configuration, byStates, blocked, qualifies, chosen, wordOf, extendStep, blockStep, workOn, workStep, judge}
-use Rattle.machine.specs.Lent.{blockersFrom, pendingFirst, columnBack, caseOf, symbolOf}
-use Rattle.machine.specs.Runs.{systemOf}
-use Rattle.machine.proofs.LentTables.{column-back-length, pending-length}
-use Rattle.blockers.specs.Room.{tableOf}
+use Rattle.machine.specs.Machine.{Blocker, Pending, Configuration, Given, oneMore, blocked, settled, qualifies, wordOf, extendStep, workOn, workStep, stepOn, step}
+use Rattle.machine.specs.Machine.{Step, nonempty, goesOn, ends, judge}
+use Rattle.machine.specs.Lent.{blockersFrom, blockersIn, pendingFirst}
+use Rattle.machine.specs.Runs.{systemOf, givenOf, roomsOf, numberOf, casesIn, symbolsIn}
+use Rattle.machine.specs.Records.{Stage, configurationOf, pendingOf, recordOf, after}
+use Rattle.machine.proofs.LentTables.{pending-length}
+use Rattle.blockers.proofs.Parts.{part-table}
 use Rattle.blockers.proofs.Placing.{blockers-length}
-use Rattle.choices.specs.Found.{foundOf}
+use Rattle.choices.specs.Found.{ReadAs, foundOf}
 use Rattle.choices.specs.declared.Found.{Found}
 use Rattle.choices.specs.declared.Found.the-variants.{At, Nothing}
 use Rattle.pending.specs.Room.{Holds as HoldsWord}
 use Rattle.checker.specs.declared.record.Run.{Run}
-use Rattle.checker.specs.Stage.{stage, configurationOf, recordOf, after, judged, Ready, FindsWord, PendsMore, lowestPending}
-use Rattle.checker.proofs.Stages.{left-word, stage-same}
+use Rattle.checker.specs.Stage.{stage, hintsOf, madeBy, blockOf, Ready, countedOf, Leaves, LeavesPending, Extended}
+use Rattle.checker.proofs.Stages.{ready-holds, word-changes}
 
 -- what the search for a symbol says of the first symbol that qualifies
 found-some : (S : System) (X : ℕ) (o : Option ℕ) (symbol : Symbol) (case : ℕ) → foundOf S X o ≡ At symbol case → (o ≡ some (symbol .0)) × (case ≡ S .backward (symbol .0) X)
@@ -46,133 +48,149 @@ unfolding foundOf
 found-none S X none e = refl
 found-none S X (some s) e = let z : _≡_ {A = ℕ} 0 1 = cc in absurd (omega arith)
 
-module _ {image : List ℕ} {head : Head} {masks levels cases symbols : List ℕ} {run : Run} (ready : Ready image head (stage masks levels cases symbols run))
-    (one : 1 ≤ run .pending) where
+module _ {image : List ℕ} {head : Head} {masks levels cases symbols : List ℕ} {run : Run} (read : ReadAs image head)
+    (ready : Ready (stage masks levels cases symbols run)) (one : 1 ≤ run .pending) where
+  S : System
+  S = systemOf image
+
+  here : Stage
+  here = stage masks levels cases symbols run
+
+  c : Configuration
+  c = configurationOf (stage masks levels cases symbols run)
+
+  -- the lowest pending case, its level but one, and the cases above it
+  X : ℕ
+  X = getD cases (run .pending - 1) 0
+
+  below : ℕ
+  below = run .level .0 - run .pending
+
   rest : List Pending
   rest = pendingFirst cases symbols (run .pending - 1)
 
   lowest : Pending
-  lowest = lowestPending cases symbols (run .pending - 1)
+  lowest = record { case = getD cases (run .pending - 1) 0; symbol = getD symbols (run .pending - 1) 0 }
 
-  -- the pending cases are the lowest and the rest, whose number says its level
-  all-pending : pendingFirst cases symbols (run .pending) ≡ lowestPending cases symbols (run .pending - 1) ∷ pendingFirst cases symbols (run .pending - 1)
-  unfolding pendingFirst
+  table : List Blocker
+  table = blockersFrom masks levels (run .held) 0
+
+  all-pending : pendingFirst cases symbols (run .pending) ≡ lowest ∷ rest
+  unfolding pendingFirst lowest rest
   all-pending = let e : run .pending ≡ suc (run .pending - 1) = omega arith in ap (pendingFirst cases symbols) e
 
-  below-is : run .level .0 - suc (length (pendingFirst cases symbols (run .pending - 1))) ≡ run .level .0 - run .pending
+  below-is : run .level .0 - suc (length rest) ≡ below
+  unfolding rest below
   below-is = omega (arith, pending-length cases symbols (run .pending - 1))
 
   pub below-small : run .level .0 - run .pending < 65536
   below-small = omega (arith, ready .level-fits, ready .room-fits)
 
   -- the step, by the first symbol that qualifies
-  worked : (hints : List ℕ) (o : Option ℕ)
-      → firstFrom (qualifies (systemOf image) (tableOf (run .held) masks levels) (run .level .0 - run .pending) (getD cases (run .pending - 1) 0)) (symbolsOf image) 0 ≡ o
-      → workStep (systemOf image) (byStates (systemOf image)) hints (configurationOf (stage masks levels cases symbols run))
-      (lowestPending cases symbols (run .pending - 1)) (pendingFirst cases symbols (run .pending - 1))
-      ≡ workOn (systemOf image) (byStates (systemOf image)) hints (configurationOf (stage masks levels cases symbols run))
-      (lowestPending cases symbols (run .pending - 1)) (pendingFirst cases symbols (run .pending - 1)) (run .level .0 - run .pending) o
-  unfolding workStep
-  worked hints o e = rw (below-is, e)
+  first : Option ℕ
+  first = firstFrom (qualifies S table below X) (symbolsOf image) 0
 
-  module _ (hints : List ℕ) {found : Found}
-      (search-is : found ≡ foundOf (systemOf image) (getD cases (run .pending - 1) 0)
-      (firstFrom (qualifies (systemOf image) (tableOf (run .held) masks levels) (run .level .0 - run .pending) (getD cases (run .pending - 1) 0)) (symbolsOf image) 0)) where
-    pub work-blocks : {masks′ levels′ cases′ symbols′ : List ℕ} {r : Run} → found ≡ Nothing
-        → stage masks′ levels′ cases′ symbols′ r
-        ≡ judged (stage masks levels cases symbols run)
-        (blockStep (systemOf image) (configurationOf (stage masks levels cases symbols run)) (pendingFirst cases symbols (run .pending - 1)) (run .level .0 - run .pending)
-        (chosen (systemOf image) (byStates (systemOf image)) hints (configurationOf (stage masks levels cases symbols run)) (run .level .0 - run .pending) (getD cases (run .pending - 1) 0)))
-        → stage masks′ levels′ cases′ symbols′ r
-        ≡ judged (stage masks levels cases symbols run)
-        (workStep (systemOf image) (byStates (systemOf image)) hints (configurationOf (stage masks levels cases symbols run))
-        (lowestPending cases symbols (run .pending - 1)) (pendingFirst cases symbols (run .pending - 1)))
-    unfolding workOn
-    work-blocks none-found made =
-        made ∙ ap (judged (stage masks levels cases symbols run)) (sym (worked hints none (found-none _ _ _ (sym search-is ∙ none-found))))
+  worked : (given : Given) (o : Option ℕ) → first ≡ o → step S given c ≡ workOn S given c lowest rest below o
+  unfolding step stepOn workStep S c first X below table lowest rest
+  worked given o e = rw (all-pending, below-is, e)
 
-    module _ (symbol : Symbol) (case : ℕ) (is : found ≡ At symbol case) (inside : Bool) (test : inside ≡ subset (head .initial) case) where
-      some-found : firstFrom (qualifies (systemOf image) (tableOf (run .held) masks levels) (run .level .0 - run .pending) (getD cases (run .pending - 1) 0)) (symbolsOf image) 0
-          ≡ some (symbol .0)
-      some-found = found-some _ _ _ symbol case (sym search-is ∙ is) .0
+  module _ (hints : List ℕ) {found : Found} (search-is : found ≡ foundOf (systemOf image) (getD cases (run .pending - 1) 0)
+      (firstFrom (qualifies (systemOf image) (blockersIn (take (run .held) masks) (take (run .held) levels)) (run .level .0 - run .pending) (getD cases (run .pending - 1) 0))
+      (symbolsOf image) 0)) where
+    found-is : found ≡ foundOf S X first
+    unfolding S X first below table
+    found-is = search-is ∙ rw (part-table (ready-holds ready))
 
-      case-is : case ≡ systemOf image .backward (symbol .0) (getD cases (run .pending - 1) 0)
-      case-is = found-some _ _ _ symbol case (sym search-is ∙ is) .1
+    pub work-blocks : {later : Stage} → found ≡ Nothing
+        → later ≡ madeBy (blockOf image hints (pendingFirst cases symbols (run .pending - 1)) (run .level .0 - run .pending) (getD cases (run .pending - 1) 0))
+        (stage masks levels cases symbols run)
+        → later ≡ madeBy (step (systemOf image) (givenOf image (hintsOf hints))) (stage masks levels cases symbols run)
+    unfolding madeBy blockOf workOn S c lowest rest below X
+    work-blocks nothing made =
+        made ∙ ap (λ (st : Step). after (stage masks levels cases symbols run) (judge (roomsOf (stage masks levels cases symbols run .tables)) (configurationOf (stage masks levels cases symbols run)) st))
+        (sym (worked (givenOf image (hintsOf hints)) none (found-none _ _ _ (sym found-is ∙ nothing))))
 
-      test-is : subset (initialOf image) (systemOf image .backward (symbol .0) (getD cases (run .pending - 1) 0)) ≡ inside
-      test-is = sym (test ∙ ap₂ subset (ap (λ (h : Head). h .initial) (ready .read)) case-is)
+    module _ (symbol : Symbol) (case : ℕ) (is : found ≡ At symbol case) where
+      some-found : first ≡ some (symbol .0)
+      some-found = found-some S X first symbol case (sym found-is ∙ is) .0
 
-      pub work-finds : {cases′ symbols′ : List ℕ} {r : Run} → inside ≡ true
-          → FindsWord run (symbol .0 ∷ wordOf (pendingFirst cases symbols (run .pending))) r cases symbols cases′ symbols′
-          → stage masks levels cases′ symbols′ r
-          ≡ judged (stage masks levels cases symbols run)
-          (workStep (systemOf image) (byStates (systemOf image)) hints (configurationOf (stage masks levels cases symbols run))
-          (lowestPending cases symbols (run .pending - 1)) (pendingFirst cases symbols (run .pending - 1)))
-      unfolding workOn judged judge extendStep after
-      work-finds yes-inside finds =
-          let finds′ = rw all-pending at finds in
-          stage-same {run′ = recordOf 1 0 ends-in} refl refl (finds′ .new-cases) (finds′ .new-symbols)
-          (finds′ .record-is ∙ rw (add-one (run .steps), blockers-length masks levels (run .held) 0))
-          ∙ sym
-          (ap (judged (stage masks levels cases symbols run)) (worked hints (some (symbol .0)) some-found)
-          ∙ rw (test-is ∙ yes-inside) (left-word ready 1 ends-in [] (symbol .0 ∷ wordOf (lowestPending cases symbols (run .pending - 1) ∷ pendingFirst cases symbols (run .pending - 1))) refl))
-        where
-          ends-in : Configuration
-          ends-in = record {
-            table = blockersFrom masks levels (run .held) 0;
-            level = run .level .0;
-            isOpen = run .opened;
-            pending = [];
-            steps = suc (run .steps);
-            blocks = run .blocks;
-            accepted = run .accepted;
-          }
+      case-is : case ≡ S .backward (symbol .0) X
+      case-is = found-some S X first symbol case (sym found-is ∙ is) .1
+
+      test-is : subset (head .initial) case ≡ subset (initialOf image) (S .backward (symbol .0) X)
+      test-is = ap₂ subset (ap (λ (h : Head). h .initial) (read .read)) case-is
+
+      -- the step extends
+      extends-by : (b : Bool) → subset (head .initial) case ≡ b
+          → step S (givenOf image (hintsOf hints)) c ≡ extendStep S c lowest rest (symbol .0) b
+      unfolding workOn S X c lowest
+      extends-by b e = worked (givenOf image (hintsOf hints)) (some (symbol .0)) some-found ∙ ap (extendStep S c lowest rest (symbol .0)) (sym test-is ∙ e)
 
       -- at level 0 a backward set that qualifies contains I, so one that does not is pending above level 0
-      pub pend-room : inside ≡ false → HoldsWord (run .pending + 1) cases symbols
-      unfolding qualifies blocked
+      pub pend-room : subset (head .initial) case ≡ false → HoldsWord (run .pending + 1) cases symbols
+      unfolding qualifies settled blocked S X first below
       pend-room not-inside = at (run .level .0 - run .pending) refl
         where
-          at : (below : ℕ) → run .level .0 - run .pending ≡ below → HoldsWord (run .pending + 1) cases symbols
+          at : (under : ℕ) → run .level .0 - run .pending ≡ under → HoldsWord (run .pending + 1) cases symbols
           at zero e =
-              let chose = first-from-some (qualifies (systemOf image) (tableOf (run .held) masks levels) (run .level .0 - run .pending) (getD cases (run .pending - 1) 0)) (symbolsOf image) 0 some-found .2 in
-              let free : T (subset (initialOf image) (systemOf image .backward (symbol .0) (getD cases (run .pending - 1) 0))) → ⊥ = fails (test-is ∙ not-inside) in
-              let bottom : T (qualifies (systemOf image) (tableOf (run .held) masks levels) 0 (getD cases (run .pending - 1) 0) (symbol .0)) = rw e at chose in
+              let chose = first-from-some (qualifies S table below X) (symbolsOf image) 0 some-found .2 in
+              let free : T (subset (initialOf image) (S .backward (symbol .0) X)) → ⊥ = fails (sym test-is ∙ not-inside) in
+              let bottom : T (qualifies S table 0 X (symbol .0)) = subst (λ (k : ℕ). T (qualifies S table k X (symbol .0))) e chose in
               absurd (neg-fails _ bottom (or-right _ _ (fails-neg _ free)))
-          at (suc below) e =
+          at (suc under) e =
               record {
                 in-cases = omega (arith, ready .level-fits);
                 in-symbols = omega (arith, ready .level-fits, ready .word-room);
               }
 
-      pub work-pends : {cases′ symbols′ : List ℕ} {r : Run} → inside ≡ false
-          → PendsMore run (record { case = case; symbol = symbol .0 } ∷ pendingFirst cases symbols (run .pending)) r cases symbols cases′ symbols′
-          → stage masks levels cases′ symbols′ r
-          ≡ judged (stage masks levels cases symbols run)
-          (workStep (systemOf image) (byStates (systemOf image)) hints (configurationOf (stage masks levels cases symbols run))
-          (lowestPending cases symbols (run .pending - 1)) (pendingFirst cases symbols (run .pending - 1)))
-      unfolding workOn judged judge extendStep after
-      work-pends not-inside pends =
-          let pends′ : PendsMore run pending-now _ cases symbols _ _ = rw (all-pending, case-is) at pends in
-          let counted : length (columnBack caseOf pending-now) ≡ run .pending + 1
-          = column-back-length caseOf pending-now ∙ omega (arith, pending-length cases symbols (run .pending - 1)) in
-          stage-same {run′ = recordOf 6 (length (columnBack caseOf pending-now)) goes-to} refl refl (pends′ .new-cases) (pends′ .new-symbols)
-          (pends′ .record-is ∙ rw (add-one (run .steps), blockers-length masks levels (run .held) 0, counted))
-          ∙ sym
-          (ap (judged (stage masks levels cases symbols run)) (worked hints (some (symbol .0)) some-found)
-          ∙ rw (test-is ∙ not-inside) (left-word ready 6 goes-to (columnBack caseOf pending-now) (columnBack symbolOf pending-now) refl))
-        where
-          pending-now : List Pending
-          pending-now = record { case = systemOf image .backward (symbol .0) (getD cases (run .pending - 1) 0); symbol = symbol .0 }
-              ∷ lowestPending cases symbols (run .pending - 1) ∷ pendingFirst cases symbols (run .pending - 1)
+      module _ {cases′ symbols′ : List ℕ} {r : Run} where
+        finds : subset (head .initial) case ≡ true
+            → Leaves run (countedOf run 1 0) [] (symbol .0 ∷ wordOf (pendingFirst cases symbols (run .pending))) r cases symbols cases′ symbols′
+            → stage masks levels cases′ symbols′ r ≡ madeBy (step (systemOf image) (givenOf image (hintsOf hints))) (stage masks levels cases symbols run)
+        unfolding madeBy judge extendStep casesIn symbolsIn recordOf numberOf pendingOf S c table here
+        finds inside leaves =
+            word-changes ready (ends (nonempty (symbol .0 ∷ wordOf (lowest ∷ rest)) (oneMore c table (run .level .0) (run .opened) []))) refl
+            (leaves .cases-are) (leaves .symbols-are ∙ rw all-pending)
+            (rw (leaves .record-is, add-one (run .steps), blockers-length masks levels (run .held) 0))
+            ∙ sym (ap (λ (st : Step). after here (judge (roomsOf (here .tables)) c st)) (extends-by true inside))
 
-          goes-to : Configuration
-          goes-to = record {
-            table = blockersFrom masks levels (run .held) 0;
-            level = run .level .0;
-            isOpen = run .opened;
-            pending = pending-now;
-            steps = suc (run .steps);
-            blocks = run .blocks;
-            accepted = run .accepted;
-          }
+        pends : subset (head .initial) case ≡ false
+            → LeavesPending run (countedOf run 6 (run .pending + 1)) (record { case = case; symbol = symbol .0 } ∷ pendingFirst cases symbols (run .pending)) r
+            cases symbols cases′ symbols′
+            → stage masks levels cases′ symbols′ r ≡ madeBy (step (systemOf image) (givenOf image (hintsOf hints))) (stage masks levels cases symbols run)
+        unfolding madeBy judge extendStep casesIn symbolsIn recordOf numberOf pendingOf S c table here X lowest rest
+        pends outside leaves =
+            let now-pending : List Pending = record { case = S .backward (symbol .0) X; symbol = symbol .0 } ∷ lowest ∷ rest in
+            let counted : length now-pending ≡ run .pending + 1 = omega (arith, ap length all-pending, pending-length cases symbols (run .pending)) in
+            let e : record { case = case; symbol = symbol .0 } ∷ pendingFirst cases symbols (run .pending) ≡ now-pending = rw (case-is, all-pending) in
+            word-changes ready (goesOn (oneMore c table (run .level .0) (run .opened) now-pending)) refl
+            (leaves .cases-are ∙ rw e) (leaves .symbols-are ∙ rw e)
+            (rw (leaves .record-is, add-one (run .steps), blockers-length masks levels (run .held) 0, counted))
+            ∙ sym (ap (λ (st : Step). after here (judge (roomsOf (here .tables)) c st)) (extends-by false outside))
+
+        pub work-extends : Extended (subset (head .initial) case) run (record { case = case; symbol = symbol .0 }) (pendingFirst cases symbols (run .pending)) r
+            cases symbols cases′ symbols′
+            → stage masks levels cases′ symbols′ r ≡ madeBy (step (systemOf image) (givenOf image (hintsOf hints))) (stage masks levels cases symbols run)
+        work-extends = at (subset (head .initial) case) refl
+          where
+            at : (b : Bool) → subset (head .initial) case ≡ b
+                → Extended b run (record { case = case; symbol = symbol .0 }) (pendingFirst cases symbols (run .pending)) r cases symbols cases′ symbols′
+                → stage masks levels cases′ symbols′ r ≡ madeBy (step (systemOf image) (givenOf image (hintsOf hints))) (stage masks levels cases symbols run)
+            at true e leaves = finds e leaves
+            at false e leaves = pends e leaves
+
+-- what an extend leaves, by the test
+module _ (initial case : ℕ) (b : Bool) (test : b ≡ subset initial case) {run : Run} (symbol : ℕ) (pending : List Pending) {r : Run} {cases symbols cases′ symbols′ : List ℕ} where
+  pub extend-finds : b ≡ true → Leaves run (countedOf run 1 0) [] (symbol ∷ wordOf pending) r cases symbols cases′ symbols′
+      → Extended (subset initial case) run (record { case = case; symbol = symbol }) pending r cases symbols cases′ symbols′
+  extend-finds e leaves =
+      subst (λ (x : Bool). Extended x run (record { case = case; symbol = symbol }) pending r cases symbols cases′ symbols′) (sym e ∙ test) leaves
+
+  pub extend-pends : b ≡ false → LeavesPending run (countedOf run 6 (run .pending + 1)) (record { case = case; symbol = symbol } ∷ pending) r cases symbols cases′ symbols′
+      → Extended (subset initial case) run (record { case = case; symbol = symbol }) pending r cases symbols cases′ symbols′
+  extend-pends e leaves =
+      subst (λ (x : Bool). Extended x run (record { case = case; symbol = symbol }) pending r cases symbols cases′ symbols′) (sym e ∙ test) leaves
+
+pub extend-room : (initial case : ℕ) {count : ℕ} {cases symbols : List ℕ} (b : Bool) → b ≡ subset initial case → b ≡ false
+    → (subset initial case ≡ false → HoldsWord count cases symbols) → HoldsWord count cases symbols
+extend-room initial case b test e room = room (sym test ∙ e)

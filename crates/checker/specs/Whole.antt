@@ -6,23 +6,20 @@ use mathlib.Core.List.{List, []}
 use lib.ListN.{length}
 use Rattle.lists.specs.Tests.{choose}
 use Rattle.masks.specs.Sets.{subset}
-use Rattle.automata.specs.Image.{Valid}
-use Rattle.automata.specs.Answers.{headOf}
 use Rattle.automata.specs.declared.image.Head.{Head}
 use Rattle.machine.specs.Lent.{placed}
-use Rattle.machine.specs.Runs.{Lent, Result, resultOf, outcomeOf}
+use Rattle.machine.specs.Runs.{Lent, Terms, Result, roomsOf, resultOf, endOf}
+use Rattle.choices.specs.Found.{ReadAs}
+use Rattle.checker.specs.Stage.{lentOf}
 use Rattle.checker.specs.declared.record.Run.{Run}
 use Rattle.checker.specs.declared.run.Counts.{Counts}
-
-abbrev pub lentOf : List ℕ → List ℕ → List ℕ → List ℕ → Lent
-lentOf masks levels cases symbols = record { masks = masks; levels = levels; cases = cases; symbols = symbols }
 
 -- the five numbers of a record
 abbrev pub countsIn : Run → Counts
 countsIn run = record {
   number = run .answer;
   steps = run .steps;
-  level = run .level .0;
+  level = run .level;
   blockers = run .held;
   accepted = run .accepted;
 }
@@ -32,7 +29,7 @@ abbrev pub resultWith : Counts → List ℕ → List ℕ → List ℕ → List �
 resultWith counts masks levels cases symbols = record {
   number = counts .number;
   steps = counts .steps;
-  level = counts .level;
+  level = counts .level .0;
   blockers = counts .blockers;
   accepted = counts .accepted;
   tables = lentOf masks levels cases symbols;
@@ -66,10 +63,9 @@ startRecord initial finals = record {
 
 -- what the machine's run needs: a valid image's head, and rooms that have passed their checks
 pub record Runnable (image : List ℕ) (head : Head) (masks levels cases symbols : List ℕ) : Type 0 where
-  pub valid : Valid image
-  pub read : head ≡ headOf image
+  pub image-read : ReadAs image head
   pub rooms : Checked masks levels cases symbols
 
 -- the result of the machine's run in these rooms
-unfoldable pub machineResult : List ℕ → Lent → List ℕ → ℕ → Result
-machineResult image lent hints allowance = resultOf lent (outcomeOf image lent hints allowance)
+unfoldable pub machineResult : List ℕ → Lent → Terms → Result
+machineResult image lent terms = resultOf lent (endOf image (roomsOf lent) terms)

@@ -1,5 +1,8 @@
 // What a run carries from one step to the next; the tables are lent beside it.
 use blockers::Level;
+ghost use mathlib.Core.Path.{_≡_};
+ghost use Prim.Native.Nat.{_<_};
+ghost use Rattle.checker.specs.Stage.{leftOf, countedOf, blockedOf, Countable};
 
 // `answer` is 6 while the run works, then the number of its end. Of the blocker room the first `held` places are in use, of the word room the first
 // `pending`. `blocks` counts the blocks made, `accepted` those that took a hint.
@@ -12,4 +15,40 @@ pub struct Run {
     pub pending: usize,
     pub blocks: u64,
     pub accepted: u64,
+}
+
+impl Run {
+    // The run with this answer and so many cases pending.
+    pub(crate) fn left(self, answer: u8, pending: usize) -> Run
+        ensures { λ r. ⌜ r ≡ leftOf self answer pending ⌝ }
+    {
+        let mut next = self;
+        next.answer = answer;
+        next.pending = pending;
+        next
+    }
+
+    // The same after one step more.
+    pub(crate) fn counted(self, answer: u8, pending: usize) -> Run
+        requires { ⌜ self .steps < 18446744073709551615 ⌝ }
+        ensures { λ r. ⌜ r ≡ countedOf self answer pending ⌝ }
+    {
+        let mut next = self;
+        next.answer = answer;
+        next.steps = self.steps + 1;
+        next.pending = pending;
+        next
+    }
+
+    // The run after a block that left `held` blockers and so many cases pending; `hinted` is 1 if it took a hint, else 0.
+    pub(crate) fn blocked(self, held: usize, pending: usize, hinted: u64) -> Run
+        requires { ⌜ Countable self hinted ⌝ }
+        ensures { λ r. ⌜ r ≡ blockedOf self held pending hinted ⌝ }
+    {
+        let mut next = self.counted(6, pending);
+        next.held = held;
+        next.blocks = self.blocks + 1;
+        next.accepted = self.accepted + hinted;
+        next
+    }
 }

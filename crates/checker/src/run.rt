@@ -6,25 +6,26 @@ use automata::image::Image;
 use blockers::Level;
 ghost use mathlib.Core.Path.{_≡_};
 ghost use Rattle.machine.specs.Runs.{checkRooms, runOf};
-ghost use Rattle.checker.specs.Whole.{Checked, Cleared, Runnable, startRecord, lentOf, countsIn, resultWith, machineResult};
+ghost use Rattle.checker.specs.Stage.{lentOf, termsOf};
+ghost use Rattle.checker.specs.Whole.{Checked, Cleared, Runnable, startRecord, countsIn, resultWith, machineResult};
 
 // The five numbers of a run.
 pub struct Counts {
     pub number: u64,
     pub steps: u64,
-    pub level: u64,
+    pub level: Level,
     pub blockers: u64,
     pub accepted: u64,
 }
 
 // A run that is refused: the number, and four zeros.
 fn refuse(number: u64) -> Counts
-    ensures { λ r. ⌜ r ≡ record { number = number; steps = 0; level = 0; blockers = 0; accepted = 0 } ⌝ }
+    ensures { λ r. ⌜ r ≡ record { number = number; steps = 0; level = record { 0 = 0 }; blockers = 0; accepted = 0 } ⌝ }
 {
     Counts {
         number,
         steps: 0,
-        level: 0,
+        level: Level(0),
         blockers: 0,
         accepted: 0,
     }
@@ -61,7 +62,7 @@ fn clear(masks: &mut [u64], levels: &mut [u32], cases: &mut [u64], symbols: &mut
 
 // 0, or 30 where the two tables of one room differ in length, or 31 where a room or the hint table has over 65,536 places.
 fn check_rooms(masks: &[u64], levels: &[u32], cases: &[u64], symbols: &[u8], hints: &[u64]) -> u64
-    ensures { λ r. ⌜ r ≡ checkRooms (lentOf (now (masks .entry)) (now (levels .entry)) (now (cases .entry)) (now (symbols .entry))) (now (hints .entry)) 0 ⌝ }
+    ensures { λ r. ⌜ r ≡ checkRooms (lentOf (now (masks .entry)) (now (levels .entry)) (now (cases .entry)) (now (symbols .entry))) (termsOf (now (hints .entry)) 0) 0 ⌝ }
 {
     if masks.len() != levels.len() {
         return 30;
@@ -94,7 +95,7 @@ fn drive(
 ) -> Run
     requires { ⌜ Runnable (now image) head (now masks) (now levels) (now cases) (now symbols) × Cleared (now masks) (now levels) (now cases) (now symbols) (now masks) (now levels) (now cases) (now symbols) ⌝ }
     ensures { λ r. ⌜ resultWith (countsIn r) (now (masks .exit)) (now (levels .exit)) (now (cases .exit)) (now (symbols .exit))
-        ≡ machineResult (now (image .entry)) (lentOf (now (masks .entry)) (now (levels .entry)) (now (cases .entry)) (now (symbols .entry))) (now (hints .entry)) allowance ⌝ }
+        ≡ machineResult (now (image .entry)) (lentOf (now (masks .entry)) (now (levels .entry)) (now (cases .entry)) (now (symbols .entry))) (termsOf (now (hints .entry)) allowance) ⌝ }
 {
     let mut run = begin(head);
     while run.answer == 6 {
@@ -117,10 +118,11 @@ fn drive(
 fn count_up(run: Run) -> Counts
     ensures { λ r. ⌜ r ≡ countsIn run ⌝ }
 {
+    let level = run.level;
     Counts {
         number: run.answer as u64,
         steps: run.steps,
-        level: run.level.0 as u64,
+        level,
         blockers: run.held as u64,
         accepted: run.accepted,
     }
@@ -139,7 +141,7 @@ fn go(
 ) -> Counts
     requires { ⌜ Runnable (now image) head (now masks) (now levels) (now cases) (now symbols) ⌝ }
     ensures { λ r. ⌜ resultWith r (now (masks .exit)) (now (levels .exit)) (now (cases .exit)) (now (symbols .exit))
-        ≡ machineResult (now (image .entry)) (lentOf (now (masks .entry)) (now (levels .entry)) (now (cases .entry)) (now (symbols .entry))) (now (hints .entry)) allowance ⌝ }
+        ≡ machineResult (now (image .entry)) (lentOf (now (masks .entry)) (now (levels .entry)) (now (cases .entry)) (now (symbols .entry))) (termsOf (now (hints .entry)) allowance) ⌝ }
 {
     clear(masks, levels, cases, symbols);
     count_up(drive(image, head, masks, levels, cases, symbols, hints, allowance))
@@ -156,7 +158,7 @@ pub fn run(
     allowance: u64,
 ) -> Counts
     ensures { λ r. ⌜ resultWith r (now (masks .exit)) (now (levels .exit)) (now (cases .exit)) (now (symbols .exit))
-        ≡ runOf (now (image .entry)) (lentOf (now (masks .entry)) (now (levels .entry)) (now (cases .entry)) (now (symbols .entry))) (now (hints .entry)) allowance ⌝ }
+        ≡ runOf (now (image .entry)) (lentOf (now (masks .entry)) (now (levels .entry)) (now (cases .entry)) (now (symbols .entry))) (termsOf (now (hints .entry)) allowance) ⌝ }
 {
     match automata::image::read_image(image) {
         Image::Refused(number) => refuse(number as u64),

@@ -4,83 +4,74 @@ use automata::image::Head;
 use automata::image::Symbol;
 use blockers::Entered;
 use blockers::Level;
+use choices::Choice;
 use choices::Found;
 ghost use mathlib.Core.Path.{_≡_};
-ghost use mathlib.Core.List.{_∷_};
+ghost use mathlib.Core.Bool.{true, false};
+ghost use mathlib.Core.List.{[], _∷_};
 ghost use Prim.Native.Nat.{_+_, _-_, _≤_, _<_};
 ghost use Rattle.lists.specs.Tests.{choose};
-ghost use Rattle.machine.specs.Machine.{finalPending, pendingAfter, openStep, blockStep, chosen, byStates, wordOf, workStep, closeStep};
-ghost use Rattle.machine.specs.Lent.{pendingFirst};
-ghost use Rattle.machine.specs.Runs.{systemOf};
-ghost use Rattle.blockers.specs.Room.{tableOf};
-ghost use Rattle.choices.specs.Found.{Given};
+ghost use Rattle.masks.specs.Sets.{subset as isSubset};
+ghost use Rattle.machine.specs.Machine.{finalPending, pendingAfter, openStep, blockStep, wordOf, step as machineStep, closeStep};
+ghost use Rattle.machine.specs.Lent.{blockersFrom, blockersIn, pendingFirst};
+ghost use Rattle.machine.specs.Runs.{systemOf, givenOf};
+ghost use Rattle.machine.specs.Records.{stepOf};
+ghost use Rattle.blockers.specs.Room.{Holds};
+ghost use Rattle.choices.specs.Found.{ReadAs, choiceOf};
 ghost use Rattle.pending.specs.Room.{Holds as HoldsWord};
-ghost use Rattle.checker.specs.Stage.{Ready, Stopped, Pends, Unpends, Countable, FindsWord, PendsMore, lowestPending, stage, configurationOf, judged, stepOf};
+ghost use Rattle.checker.specs.Stage.{stage, termsOf, hintsOf, madeBy, blockOf, Ready, leftOf, countedOf, Leaves, LeavesPending, Unpends, Extended, Pends, Countable};
 
 // The run ends without a verdict, under the number of what it lacks: nothing stays pending.
 fn stop(cases: &mut [u64], symbols: &mut [u8], run: Run, number: u8) -> Run
     requires { ⌜ HoldsWord (run .pending) (now cases) (now symbols) ⌝ }
-    ensures { λ r. ⌜ Stopped run number r (now (cases .entry)) (now (symbols .entry)) (now (cases .exit)) (now (symbols .exit)) ⌝ }
+    ensures { λ r. ⌜ Leaves run (leftOf run number 0) [] [] r (now (cases .entry)) (now (symbols .entry)) (now (cases .exit)) (now (symbols .exit)) ⌝ }
 {
     pending::clear(cases, symbols, run.pending);
-    let level = run.level;
-    Run {
-        answer: number,
-        steps: run.steps,
-        level,
-        opened: run.opened,
-        held: run.held,
-        pending: 0,
-        blocks: run.blocks,
-        accepted: run.accepted,
-    }
+    run.left(number, 0)
 }
 
 // With nothing pending: F becomes pending if it is not blocked at the level. Answers how many cases are pending then.
 fn pend_final(
-    image: &[u8],
-    head: Head,
+    initial: u64,
+    finals: u64,
     masks: &[u64],
     levels: &[u32],
-    held: usize,
     level: Level,
     cases: &mut [u64],
     symbols: &mut [u8],
 ) -> usize
-    requires { ⌜ Given (now image) head (now masks) (now levels) held × HoldsWord 1 (now cases) (now symbols) ⌝ }
-    ensures { λ r. ⌜ Pends 0 (finalPending (systemOf (now (image .entry))) (tableOf held (now (masks .entry)) (now (levels .entry))) (level .0)) r (now (cases .entry)) (now (symbols .entry)) (now (cases .exit)) (now (symbols .exit)) ⌝ }
+    requires { ⌜ HoldsWord 1 (now cases) (now symbols) ⌝ }
+    ensures { λ r. ⌜ Pends 0 (finalPending initial (finals ∷ []) (blockersIn (now (masks .entry)) (now (levels .entry))) (level .0)) r (now (cases .entry)) (now (symbols .entry)) (now (cases .exit)) (now (symbols .exit)) ⌝ }
 {
-    if choices::blocked(image, head, masks, levels, held, level, head.finals) {
+    if choices::blocked(initial, masks, levels, level, finals) {
         return 0;
     }
-    pending::push(cases, symbols, 0, head.finals, Symbol(0));
+    pending::push(cases, symbols, 0, finals, Symbol(0));
     1
 }
 
 // With `rest` cases pending, they stay; with none, F may become pending again. Answers how many cases are pending then.
 fn pend_after(
-    image: &[u8],
-    head: Head,
+    initial: u64,
+    finals: u64,
     masks: &[u64],
     levels: &[u32],
-    held: usize,
     level: Level,
     cases: &mut [u64],
     symbols: &mut [u8],
     rest: usize,
 ) -> usize
-    requires { ⌜ Given (now image) head (now masks) (now levels) held × HoldsWord (rest + 1) (now cases) (now symbols) ⌝ }
-    ensures { λ r. ⌜ Pends rest (pendingAfter (systemOf (now (image .entry))) (tableOf held (now (masks .entry)) (now (levels .entry))) (level .0) (pendingFirst (now (cases .entry)) (now (symbols .entry)) rest)) r (now (cases .entry)) (now (symbols .entry)) (now (cases .exit)) (now (symbols .exit)) ⌝ }
+    requires { ⌜ HoldsWord (rest + 1) (now cases) (now symbols) ⌝ }
+    ensures { λ r. ⌜ Pends rest (pendingAfter initial (finals ∷ []) (blockersIn (now (masks .entry)) (now (levels .entry))) (level .0) (pendingFirst (now (cases .entry)) (now (symbols .entry)) rest)) r (now (cases .entry)) (now (symbols .entry)) (now (cases .exit)) (now (symbols .exit)) ⌝ }
 {
     if rest == 0 {
-        return pend_final(image, head, masks, levels, held, level, cases, symbols);
+        return pend_final(initial, finals, masks, levels, level, cases, symbols);
     }
     rest
 }
 
 // Open: the level grows by 1 and is open.
 fn open_level(
-    image: &[u8],
     head: Head,
     masks: &[u64],
     levels: &[u32],
@@ -88,70 +79,70 @@ fn open_level(
     symbols: &mut [u8],
     run: Run,
 ) -> Run
-    requires { ⌜ Ready (now image) head (stage (now masks) (now levels) (now cases) (now symbols) run) × (run .pending ≡ 0) × (run .steps < 18446744073709551615) ⌝ }
+    requires { ⌜ Ready (stage (now masks) (now levels) (now cases) (now symbols) run) × (run .pending ≡ 0) × (run .steps < 18446744073709551615) ⌝ }
     ensures { λ r. ⌜ stage (now (masks .entry)) (now (levels .entry)) (now (cases .exit)) (now (symbols .exit)) r
-        ≡ judged (stage (now (masks .entry)) (now (levels .entry)) (now (cases .entry)) (now (symbols .entry)) run)
-        (openStep (systemOf (now (image .entry))) (configurationOf (stage (now (masks .entry)) (now (levels .entry)) (now (cases .entry)) (now (symbols .entry)) run))) ⌝ }
+        ≡ madeBy (openStep (head .initial) (head .finals ∷ [])) (stage (now (masks .entry)) (now (levels .entry)) (now (cases .entry)) (now (symbols .entry)) run) ⌝ }
 {
-    let level = run.level.0;
-    if cases.len() <= level as usize {
+    let level = run.level;
+    if cases.len() <= level.0 as usize {
         return stop(cases, symbols, run, 4);
     }
-    let next = Level(level + 1);
-    let pending = pend_final(image, head, masks, levels, run.held, next, cases, symbols);
-    Run {
-        answer: 6,
-        steps: run.steps + 1,
-        level: next,
-        opened: true,
-        held: run.held,
-        pending,
-        blocks: run.blocks,
-        accepted: run.accepted,
-    }
+    let next = level.above();
+    let held = run.held;
+    let pending = pend_final(
+        head.initial,
+        head.finals,
+        &masks[..held],
+        &levels[..held],
+        next,
+        cases,
+        symbols,
+    );
+    let mut opened = run.counted(6, pending);
+    opened.level = next;
+    opened.opened = true;
+    opened
 }
 
 // The backward set of the lowest pending case contains I: the run ends with the word.
 fn find_word(cases: &mut [u64], symbols: &mut [u8], run: Run, symbol: Symbol) -> Run
     requires { ⌜ HoldsWord (run .pending) (now cases) (now symbols) × (1 ≤ run .pending) × (run .steps < 18446744073709551615) ⌝ }
-    ensures { λ r. ⌜ FindsWord run (symbol .0 ∷ wordOf (pendingFirst (now (cases .entry)) (now (symbols .entry)) (run .pending))) r (now (cases .entry)) (now (symbols .entry)) (now (cases .exit)) (now (symbols .exit)) ⌝ }
+    ensures { λ r. ⌜ Leaves run (countedOf run 1 0) [] (symbol .0 ∷ wordOf (pendingFirst (now (cases .entry)) (now (symbols .entry)) (run .pending))) r (now (cases .entry)) (now (symbols .entry)) (now (cases .exit)) (now (symbols .exit)) ⌝ }
 {
     pending::write_word(cases, symbols, run.pending, symbol);
-    let level = run.level;
-    Run {
-        answer: 1,
-        steps: run.steps + 1,
-        level,
-        opened: run.opened,
-        held: run.held,
-        pending: 0,
-        blocks: run.blocks,
-        accepted: run.accepted,
-    }
+    run.counted(1, 0)
 }
 
 // The backward set becomes pending, below the others.
 fn pend_more(cases: &mut [u64], symbols: &mut [u8], run: Run, symbol: Symbol, case: u64) -> Run
     requires { ⌜ HoldsWord (run .pending + 1) (now cases) (now symbols) × (run .steps < 18446744073709551615) ⌝ }
-    ensures { λ r. ⌜ PendsMore run (record { case = case; symbol = symbol .0 } ∷ pendingFirst (now (cases .entry)) (now (symbols .entry)) (run .pending)) r (now (cases .entry)) (now (symbols .entry)) (now (cases .exit)) (now (symbols .exit)) ⌝ }
+    ensures { λ r. ⌜ LeavesPending run (countedOf run 6 (run .pending + 1)) (record { case = case; symbol = symbol .0 } ∷ pendingFirst (now (cases .entry)) (now (symbols .entry)) (run .pending)) r (now (cases .entry)) (now (symbols .entry)) (now (cases .exit)) (now (symbols .exit)) ⌝ }
 {
-    pending::push(cases, symbols, run.pending, case, symbol);
-    let level = run.level;
-    Run {
-        answer: 6,
-        steps: run.steps + 1,
-        level,
-        opened: run.opened,
-        held: run.held,
-        pending: run.pending + 1,
-        blocks: run.blocks,
-        accepted: run.accepted,
-    }
+    let count = run.pending;
+    pending::push(cases, symbols, count, case, symbol);
+    run.counted(6, count + 1)
 }
 
-// A blocker has entered for the pending case of the lowest level: that case is no longer pending.
+// Extend by the symbol whose backward set P of the lowest pending case was found: the word, if P contains I; else P becomes pending.
+fn extend(
+    initial: u64,
+    cases: &mut [u64],
+    symbols: &mut [u8],
+    run: Run,
+    symbol: Symbol,
+    case: u64,
+) -> Run
+    requires { ⌜ HoldsWord (run .pending) (now cases) (now symbols) × (1 ≤ run .pending) × (run .steps < 18446744073709551615) × (isSubset initial case ≡ false → HoldsWord (run .pending + 1) (now cases) (now symbols)) ⌝ }
+    ensures { λ r. ⌜ Extended (isSubset initial case) run (record { case = case; symbol = symbol .0 }) (pendingFirst (now (cases .entry)) (now (symbols .entry)) (run .pending)) r (now (cases .entry)) (now (symbols .entry)) (now (cases .exit)) (now (symbols .exit)) ⌝ }
+{
+    if masks::subset(initial, case) {
+        return find_word(cases, symbols, run, symbol);
+    }
+    pend_more(cases, symbols, run, symbol, case)
+}
+
+// A blocker has entered for the pending case of the lowest level, and `held` are held: that case is no longer pending.
 fn unpend(
-    image: &[u8],
     head: Head,
     masks: &[u64],
     levels: &[u32],
@@ -161,33 +152,55 @@ fn unpend(
     held: usize,
     hinted: u64,
 ) -> Run
-    requires { ⌜ Given (now image) head (now masks) (now levels) held × HoldsWord (run .pending) (now cases) (now symbols) × Countable run hinted ⌝ }
-    ensures { λ r. ⌜ Unpends run held hinted (pendingAfter (systemOf (now (image .entry))) (tableOf held (now (masks .entry)) (now (levels .entry))) (run .level .0) (pendingFirst (now (cases .entry)) (now (symbols .entry)) (run .pending - 1))) r (now (cases .entry)) (now (symbols .entry)) (now (cases .exit)) (now (symbols .exit)) ⌝ }
+    requires { ⌜ Holds held (now masks) (now levels) × HoldsWord (run .pending) (now cases) (now symbols) × (1 ≤ run .pending) × Countable run hinted ⌝ }
+    ensures { λ r. ⌜ Unpends run held hinted (pendingAfter (head .initial) (head .finals ∷ []) (blockersFrom (now (masks .entry)) (now (levels .entry)) held 0) (run .level .0) (pendingFirst (now (cases .entry)) (now (symbols .entry)) (run .pending - 1))) r (now (cases .entry)) (now (symbols .entry)) (now (cases .exit)) (now (symbols .exit)) ⌝ }
 {
     let rest = run.pending - 1;
     pending::pop(cases, symbols, run.pending);
     let level = run.level;
     let pending = pend_after(
-        image,
-        head,
-        masks,
-        levels,
-        held,
+        head.initial,
+        head.finals,
+        &masks[..held],
+        &levels[..held],
         level,
         cases,
         symbols,
         rest,
     );
-    Run {
-        answer: 6,
-        steps: run.steps + 1,
-        level,
-        opened: run.opened,
+    run.blocked(held, pending, hinted)
+}
+
+// The chosen set enters one level above `below`, if there is a place for it, and the pending case of the lowest level is no longer pending.
+fn enter(
+    head: Head,
+    masks: &mut [u64],
+    levels: &mut [u32],
+    cases: &mut [u64],
+    symbols: &mut [u8],
+    run: Run,
+    below: Level,
+    choice: Choice,
+) -> Run
+    requires { ⌜ Ready (stage (now masks) (now levels) (now cases) (now symbols) run) × (1 ≤ run .pending) × (below .0 < 65536) × Countable run (choice .hinted) ⌝ }
+    ensures { λ r. ⌜ stage (now (masks .exit)) (now (levels .exit)) (now (cases .exit)) (now (symbols .exit)) r
+        ≡ madeBy (λ c. blockStep (head .initial) (head .finals ∷ []) c (pendingFirst (now (cases .entry)) (now (symbols .entry)) (run .pending - 1)) (below .0) (choiceOf choice))
+        (stage (now (masks .entry)) (now (levels .entry)) (now (cases .entry)) (now (symbols .entry)) run) ⌝ }
+{
+    let entered = blockers::enter(masks, levels, run.held, choice.mask, below.above());
+    let Entered::Held(held) = entered else {
+        return stop(cases, symbols, run, 3);
+    };
+    unpend(
+        head,
+        masks,
+        levels,
+        cases,
+        symbols,
+        run,
         held,
-        pending,
-        blocks: run.blocks + 1,
-        accepted: run.accepted + hinted,
-    }
+        choice.hinted,
+    )
 }
 
 // Block the pending case x of the lowest level, which is one above `below`.
@@ -203,39 +216,23 @@ fn block(
     below: Level,
     x: u64,
 ) -> Run
-    requires { ⌜ Ready (now image) head (stage (now masks) (now levels) (now cases) (now symbols) run) × (1 ≤ run .pending) × (below .0 < 65536) × (run .steps < 18446744073709551615) ⌝ }
+    requires { ⌜ ReadAs (now image) head × Ready (stage (now masks) (now levels) (now cases) (now symbols) run) × (1 ≤ run .pending) × (below .0 < 65536) × (run .steps < 18446744073709551615) ⌝ }
     ensures { λ r. ⌜ stage (now (masks .exit)) (now (levels .exit)) (now (cases .exit)) (now (symbols .exit)) r
-        ≡ judged (stage (now (masks .entry)) (now (levels .entry)) (now (cases .entry)) (now (symbols .entry)) run)
-        (blockStep (systemOf (now (image .entry))) (configurationOf (stage (now (masks .entry)) (now (levels .entry)) (now (cases .entry)) (now (symbols .entry)) run))
-        (pendingFirst (now (cases .entry)) (now (symbols .entry)) (run .pending - 1)) (below .0)
-        (chosen (systemOf (now (image .entry))) (byStates (systemOf (now (image .entry)))) (now (hints .entry)) (configurationOf (stage (now (masks .entry)) (now (levels .entry)) (now (cases .entry)) (now (symbols .entry)) run)) (below .0) x)) ⌝ }
+        ≡ madeBy (blockOf (now (image .entry)) (now (hints .entry)) (pendingFirst (now (cases .entry)) (now (symbols .entry)) (run .pending - 1)) (below .0) x)
+        (stage (now (masks .entry)) (now (levels .entry)) (now (cases .entry)) (now (symbols .entry)) run) ⌝ }
 {
+    let held = run.held;
     let choice = choices::choose_set(
         image,
         head,
-        masks,
-        levels,
-        run.held,
+        &masks[..held],
+        &levels[..held],
         below,
         x,
         hints,
         run.blocks,
     );
-    let entered = blockers::enter(masks, levels, run.held, choice.mask, Level(below.0 + 1));
-    let Entered::Held(held) = entered else {
-        return stop(cases, symbols, run, 3);
-    };
-    unpend(
-        image,
-        head,
-        masks,
-        levels,
-        cases,
-        symbols,
-        run,
-        held,
-        choice.hinted,
-    )
+    enter(head, masks, levels, cases, symbols, run, below, choice)
 }
 
 // Extend the pending case of the lowest level by the first symbol that qualifies; block it if none does.
@@ -249,17 +246,15 @@ fn work(
     hints: &[u64],
     run: Run,
 ) -> Run
-    requires { ⌜ Ready (now image) head (stage (now masks) (now levels) (now cases) (now symbols) run) × (1 ≤ run .pending) × (run .steps < 18446744073709551615) ⌝ }
+    requires { ⌜ ReadAs (now image) head × Ready (stage (now masks) (now levels) (now cases) (now symbols) run) × (1 ≤ run .pending) × (run .steps < 18446744073709551615) ⌝ }
     ensures { λ r. ⌜ stage (now (masks .exit)) (now (levels .exit)) (now (cases .exit)) (now (symbols .exit)) r
-        ≡ judged (stage (now (masks .entry)) (now (levels .entry)) (now (cases .entry)) (now (symbols .entry)) run)
-        (workStep (systemOf (now (image .entry))) (byStates (systemOf (now (image .entry)))) (now (hints .entry))
-        (configurationOf (stage (now (masks .entry)) (now (levels .entry)) (now (cases .entry)) (now (symbols .entry)) run))
-        (lowestPending (now (cases .entry)) (now (symbols .entry)) (run .pending - 1))
-        (pendingFirst (now (cases .entry)) (now (symbols .entry)) (run .pending - 1))) ⌝ }
+        ≡ madeBy (machineStep (systemOf (now (image .entry))) (givenOf (now (image .entry)) (hintsOf (now (hints .entry)))))
+        (stage (now (masks .entry)) (now (levels .entry)) (now (cases .entry)) (now (symbols .entry)) run) ⌝ }
 {
     let x = cases[run.pending - 1];
     let below = Level(run.level.0 - run.pending as u32);
-    let found = choices::first_symbol(image, head, masks, levels, run.held, below, x);
+    let held = run.held;
+    let found = choices::first_symbol(image, head, &masks[..held], &levels[..held], below, x);
     let Found::At(symbol, case) = found else {
         return block(
             image,
@@ -274,10 +269,7 @@ fn work(
             x,
         );
     };
-    if masks::subset(head.initial, case) {
-        return find_word(cases, symbols, run, symbol);
-    }
-    pend_more(cases, symbols, run, symbol, case)
+    extend(head.initial, cases, symbols, run, symbol, case)
 }
 
 // 0 for a run that ends with the frame, 6 for one that works on.
@@ -297,23 +289,16 @@ fn close_level(
     symbols: &[u8],
     run: Run,
 ) -> Run
-    requires { ⌜ Ready (now image) head (stage (now masks) (now levels) (now cases) (now symbols) run) × (run .pending ≡ 0) × (run .steps < 18446744073709551615) ⌝ }
+    requires { ⌜ ReadAs (now image) head × Ready (stage (now masks) (now levels) (now cases) (now symbols) run) × (run .pending ≡ 0) × (run .steps < 18446744073709551615) ⌝ }
     ensures { λ r. ⌜ stage (now (masks .exit)) (now (levels .exit)) (now (cases .entry)) (now (symbols .entry)) r
-        ≡ judged (stage (now (masks .entry)) (now (levels .entry)) (now (cases .entry)) (now (symbols .entry)) run)
-        (closeStep (systemOf (now (image .entry))) (configurationOf (stage (now (masks .entry)) (now (levels .entry)) (now (cases .entry)) (now (symbols .entry)) run))) ⌝ }
+        ≡ madeBy (closeStep (systemOf (now (image .entry)))) (stage (now (masks .entry)) (now (levels .entry)) (now (cases .entry)) (now (symbols .entry)) run) ⌝ }
 {
     let level = run.level;
     let closed = closing::close(image, head, masks, levels, run.held, level);
-    Run {
-        answer: working_unless(closed.empty),
-        steps: run.steps + 1,
-        level,
-        opened: false,
-        held: closed.held,
-        pending: 0,
-        blocks: run.blocks,
-        accepted: run.accepted,
-    }
+    let mut after = run.counted(working_unless(closed.empty), 0);
+    after.opened = false;
+    after.held = closed.held;
+    after
 }
 
 // One step of a run that works: the allowance is tested, then the room that the step needs. A pending case is worked on first; with none, an open level
@@ -329,9 +314,9 @@ pub(crate) fn step(
     run: Run,
     allowance: u64,
 ) -> Run
-    requires { ⌜ Ready (now image) head (stage (now masks) (now levels) (now cases) (now symbols) run) ⌝ }
+    requires { ⌜ ReadAs (now image) head × Ready (stage (now masks) (now levels) (now cases) (now symbols) run) ⌝ }
     ensures { λ r. ⌜ stage (now (masks .exit)) (now (levels .exit)) (now (cases .exit)) (now (symbols .exit)) r
-        ≡ stepOf (now (image .entry)) (now (hints .entry)) allowance (stage (now (masks .entry)) (now (levels .entry)) (now (cases .entry)) (now (symbols .entry)) run) ⌝ }
+        ≡ stepOf (now (image .entry)) (termsOf (now (hints .entry)) allowance) (stage (now (masks .entry)) (now (levels .entry)) (now (cases .entry)) (now (symbols .entry)) run) ⌝ }
 {
     if allowance <= run.steps {
         return stop(cases, symbols, run, 2);
@@ -342,5 +327,5 @@ pub(crate) fn step(
     if run.opened {
         return close_level(image, head, masks, levels, cases, symbols, run);
     }
-    open_level(image, head, masks, levels, cases, symbols, run)
+    open_level(head, masks, levels, cases, symbols, run)
 }

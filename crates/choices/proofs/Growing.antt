@@ -11,60 +11,56 @@ use lib.ListN.{length, getD}
 use Rattle.lists.specs.Tests.{_and_, neg, choose}
 use Rattle.masks.specs.Sets.{member, union, single}
 use Rattle.automata.specs.declared.image.Head.{Head}
-use Rattle.machine.specs.Machine.{passes, withState, withStates, byStates, hintAt, chosenFrom}
+use Rattle.machine.specs.System.{System}
+use Rattle.machine.specs.Machine.{Blocker, passes, Growth, withState, withStates, byStates, hintAt, chosenFrom}
 use Rattle.machine.specs.Machine as Machine
 use Rattle.machine.specs.Runs.{systemOf}
-use Rattle.blockers.specs.Room.{tableOf}
-use Rattle.choices.specs.Found.{Given}
+use Rattle.choices.specs.Found.{ReadAs}
 use Rattle.choices.proofs.Blocking.{head-states, states-fit}
 
 -- one state
-module _ {image : List ℕ} {head : Head} {masks levels : List ℕ} {held : ℕ} (given : Given image head masks levels held) where
-  pub state-there : (below X q Y : ℕ) (b : Bool) → b ≡ member q X → b ≡ true
-      → Y ≡ withState (systemOf image) (tableOf held masks levels) below X q Y
+module _ (S : System) (table : List Blocker) (below X q Y : ℕ) (there : Bool) (test : there ≡ member q X) where
+  pub state-there : there ≡ true → Y ≡ withState S table below X q Y
   unfolding withState choose _and_ neg
-  state-there below X q Y b e t = sym (rw (← e, t))
+  state-there t = sym (rw (← test, t))
 
-  module _ (below X q Y more : ℕ) (there passing : Bool) (e : there ≡ member q X) (new : there ≡ false) (put : more ≡ union Y (single q))
-      (test : passing ≡ passes (systemOf image) (tableOf held masks levels) below X more) where
-    with-test : withState (systemOf image) (tableOf held masks levels) below X q Y ≡ choose passing more Y
+  module _ (more : ℕ) (passing : Bool) (put : more ≡ union Y (single q)) (passes-test : passing ≡ passes S table below X more) (new : there ≡ false) where
+    by-passing : choose passing more Y ≡ withState S table below X q Y
     unfolding withState _and_ neg
-    with-test = rw (← e, new, ← put, ← test)
+    by-passing = sym (rw (← test, new, ← put, ← passes-test))
 
-    pub state-kept : passing ≡ true → more ≡ withState (systemOf image) (tableOf held masks levels) below X q Y
+    pub state-kept : passing ≡ true → more ≡ withState S table below X q Y
     unfolding choose
-    state-kept t = sym (with-test ∙ rw t)
+    state-kept t = sym (rw t) ∙ by-passing
 
-    pub state-left : passing ≡ false → Y ≡ withState (systemOf image) (tableOf held masks levels) below X q Y
+    pub state-left : passing ≡ false → Y ≡ withState S table below X q Y
     unfolding choose
-    state-left f = sym (with-test ∙ rw f)
+    state-left f = sym (rw f) ∙ by-passing
 
 -- the walk over the states, before state q: the set so far, and what the states from q on make of it
-pub record StatesTried (image masks levels : List ℕ) (held below X states q Y : ℕ) : Type 0 where
+pub record StatesTried (image : List ℕ) (table : List Blocker) (below X states q Y : ℕ) : Type 0 where
   pub fit : states ≤ 64
-  pub left : withStates (systemOf image) (tableOf held masks levels) below X (states - q) q Y ≡ byStates (systemOf image) (tableOf held masks levels) below X
+  pub left : withStates (systemOf image) table below X (states - q) q Y ≡ byStates (systemOf image) table below X
 
-pub states-start : {image : List ℕ} {head : Head} {masks levels : List ℕ} {held below X : ℕ} → Given image head masks levels held
-    → StatesTried image masks levels held below X (head .states) 0 X
+pub states-start : {image : List ℕ} {head : Head} {table : List Blocker} {below X : ℕ} → ReadAs image head
+    → StatesTried image table below X (head .states) 0 X
 unfolding byStates
-states-start {image} {head} {masks} {levels} {held} {below} {X} given =
-    record {
-      fit = states-fit given;
-      left = ap (λ (count : ℕ). withStates (systemOf image) (tableOf held masks levels) below X count 0 X) (sub-zero (head .states) ∙ head-states given);
-    }
+states-start {image} {head} {table} {below} {X} read = record {
+  fit = states-fit read;
+  left = ap (λ (count : ℕ). withStates (systemOf image) table below X count 0 X) (sub-zero (head .states) ∙ head-states read);
+}
 
-module _ {image masks levels : List ℕ} {held below X states q Y : ℕ} (tried : StatesTried image masks levels held below X states q Y) where
+module _ {image : List ℕ} {table : List Blocker} {below X states q Y : ℕ} (tried : StatesTried image table below X states q Y) where
   pub state-fits : q < states → q < 64
   state-fits l = omega (arith, tried .fit)
 
-  pub states-go : (more : ℕ) → q < states → more ≡ withState (systemOf image) (tableOf held masks levels) below X q Y
-      → StatesTried image masks levels held below X states (q + 1) more
+  pub states-go : (more : ℕ) → q < states → more ≡ withState (systemOf image) table below X q Y → StatesTried image table below X states (q + 1) more
   unfolding withStates
   states-go more l e =
       let c : states - q ≡ suc (states - suc q) = omega arith in
       record { fit = tried .fit; left = rw (add-one, e) (rw c at (tried .left)) }
 
-  pub states-end : states ≤ q → Y ≡ byStates (systemOf image) (tableOf held masks levels) below X
+  pub states-end : states ≤ q → Y ≡ byStates (systemOf image) table below X
   unfolding withStates
   states-end l = let c : states - q ≡ 0 = omega arith in rw c at (tried .left)
 
@@ -81,24 +77,19 @@ hint-lacks [] t l = refl
 hint-lacks (hint ∷ hints) zero l = absurd (omega arith)
 hint-lacks (hint ∷ hints) (suc t) l = hint-lacks hints t (omega arith)
 
-module _ {image : List ℕ} {head : Head} {masks levels : List ℕ} {held : ℕ} (given : Given image head masks levels held) where
-  pub chosen-without : (hints : List ℕ) (below X mask blocks : ℕ) → length hints ≤ blocks
-      → mask ≡ byStates (systemOf image) (tableOf held masks levels) below X
-      → _≡_ {A = Machine.Choice} (record { mask = mask; hinted = 0 })
-      (chosenFrom (systemOf image) (byStates (systemOf image)) (tableOf held masks levels) below X (hintAt hints blocks))
+module _ (S : System) (grow : Growth) (table : List Blocker) (below X : ℕ) (hints : List ℕ) (blocks : ℕ) where
+  pub chosen-without : (mask : ℕ) → length hints ≤ blocks → mask ≡ grow table below X
+      → record { mask = mask; hinted = 0 } ≡ chosenFrom S grow table below X (hintAt hints blocks)
   unfolding chosenFrom
-  chosen-without hints below X mask blocks l e = sym (rw (hint-lacks hints blocks l, e))
+  chosen-without mask l e = sym (rw (hint-lacks hints blocks l, e))
 
-  module _ (hints : List ℕ) (below X blocks : ℕ) (passing : Bool) (l : blocks < length hints)
-      (test : passing ≡ passes (systemOf image) (tableOf held masks levels) below X (getD hints blocks 0)) where
+  module _ (passing : Bool) (l : blocks < length hints) (test : passing ≡ passes S table below X (getD hints blocks 0)) where
     pub chosen-hint : passing ≡ true
-        → _≡_ {A = Machine.Choice} (record { mask = getD hints blocks 0; hinted = 1 })
-        (chosenFrom (systemOf image) (byStates (systemOf image)) (tableOf held masks levels) below X (hintAt hints blocks))
+        → record { mask = getD hints blocks 0; hinted = 1 } ≡ chosenFrom S grow table below X (hintAt hints blocks)
     unfolding chosenFrom choose
     chosen-hint t = sym (rw (hint-there hints blocks l, ← test, t))
 
-    pub chosen-grown : (mask : ℕ) → passing ≡ false → mask ≡ byStates (systemOf image) (tableOf held masks levels) below X
-        → _≡_ {A = Machine.Choice} (record { mask = mask; hinted = 0 })
-        (chosenFrom (systemOf image) (byStates (systemOf image)) (tableOf held masks levels) below X (hintAt hints blocks))
+    pub chosen-grown : (mask : ℕ) → passing ≡ false → mask ≡ grow table below X
+        → record { mask = mask; hinted = 0 } ≡ chosenFrom S grow table below X (hintAt hints blocks)
     unfolding chosenFrom choose
     chosen-grown mask f e = sym (rw (hint-there hints blocks l, ← test, f, e))

@@ -1,132 +1,134 @@
 -- The loops over the symbols: the search for the first symbol that qualifies, with its walk over the blockers, and a test of each backward set.
 -- Assumes nothing.
-use Prim.Native.Nat.{ℕ, _+_, _-_, _≤_, _<_}
+use Prim.Native.Nat.{ℕ, _+_, _-_, _≤_, _<_, min}
 use mathlib.Core.Path.{_≡_, refl, sym, ap, _∙_}
 use mathlib.Core.Bool.{Bool, true, false, not}
 use mathlib.Core.List.{List}
 use native.Mathlib.Nat.{sub-zero}
+use native.Mathlib.Omega.{arith}
 use borrow.Author.Tests.{not-true, not-false}
-use Rattle.lists.specs.Tests.{_or_, neg}
-use Rattle.lists.specs.Lists.{firstFrom, eachFrom}
+use lib.Dec.{eqb}
+use lib.ListN.{length}
+use Rattle.lists.specs.Tests.{neg}
+use Rattle.lists.specs.Lists.{any, firstFrom, eachFrom}
 use Rattle.lists.proofs.Lists.{first-from-here, first-from-later, first-from-nowhere, each-from-fails, each-from-holds, each-from-ends}
 use Rattle.masks.specs.Sets.{subset}
-use Rattle.automata.specs.Image.{symbolsOf, rowsOf}
+use Rattle.automata.specs.Image.{symbolsOf, initialOf, rowsOf}
 use Rattle.automata.specs.Automaton.{backward}
 use Rattle.automata.specs.declared.image.Head.{Head}
-use Rattle.machine.specs.Machine.{covers, blocked, qualifies}
+use Rattle.machine.specs.Machine.{Blocker, covers, settled, qualifies}
+use Rattle.machine.specs.Lent.{blockersFrom, blockersIn}
 use Rattle.machine.specs.Runs.{systemOf}
-use Rattle.blockers.specs.Room.{tableOf, blockerAt}
-use Rattle.blockers.proofs.Walks.{from-first, CoverSearched, cover-starts, cover-here, cover-goes, cover-nowhere}
-use Rattle.choices.specs.Found.{Given, foundOf}
+use Rattle.blockers.specs.Room.{blockerAt}
+use Rattle.blockers.proofs.Walks.{CoverSearched, cover-starts, cover-here, cover-goes, cover-nowhere}
+use Rattle.choices.specs.Found.{ReadAs, foundOf}
+use Rattle.choices.specs.declared.Found.{Found}
 use Rattle.choices.specs.declared.Found.the-variants.{At, Nothing}
-use Rattle.choices.proofs.Blocking.{blocked-by-initial, blocked-by-blockers, head-symbols, head-initial}
+use Rattle.choices.proofs.Blocking.{blocked-bottom, blocked-above, settled-inside, settled-blocked, head-symbols, head-initial}
+
+-- whether a symbol can extend X, and the first that can
+abbrev extending : List ℕ → List ℕ → List ℕ → ℕ → ℕ → ℕ → Bool
+extending image masks levels below X = qualifies (systemOf image) (blockersIn masks levels) below X
+
+abbrev firstFound : List ℕ → List ℕ → List ℕ → ℕ → ℕ → Found
+firstFound image masks levels below X = foundOf (systemOf image) X (firstFrom (extending image masks levels below X) (symbolsOf image) 0)
 
 -- the search for the first symbol that qualifies, before symbol s: none was found, and the symbols from s on are left
-pub record SymbolsTried (image masks levels : List ℕ) (held below X symbols s : ℕ) : Type 0 where
+pub record SymbolsTried (image masks levels : List ℕ) (below X symbols s : ℕ) : Type 0 where
   pub count : symbols ≡ symbolsOf image
-  pub left : firstFrom (qualifies (systemOf image) (tableOf held masks levels) below X) (symbols - s) s
-      ≡ firstFrom (qualifies (systemOf image) (tableOf held masks levels) below X) (symbolsOf image) 0
+  pub left : firstFrom (extending image masks levels below X) (symbols - s) s ≡ firstFrom (extending image masks levels below X) (symbolsOf image) 0
 
-pub tried-none : {image : List ℕ} {head : Head} {masks levels : List ℕ} {held below X : ℕ} → Given image head masks levels held
-    → SymbolsTried image masks levels held below X (head .symbols) 0
-tried-none {image} {head} {masks} {levels} {held} {below} {X} given =
-    record {
-      count = head-symbols given;
-      left =
-          ap (λ (count : ℕ). firstFrom (qualifies (systemOf image) (tableOf held masks levels) below X) count 0)
-          (sub-zero (head .symbols) ∙ head-symbols given);
-    }
+pub tried-none : {image : List ℕ} {head : Head} {masks levels : List ℕ} {below X : ℕ} → ReadAs image head
+    → SymbolsTried image masks levels below X (head .symbols) 0
+tried-none {image} {head} {masks} {levels} {below} {X} read = record {
+  count = head-symbols read;
+  left = ap (λ (count : ℕ). firstFrom (extending image masks levels below X) count 0) (sub-zero (head .symbols) ∙ head-symbols read);
+}
 
 -- the walk over the blockers for one symbol, before place i; the walk leaves the symbol as it is
-pub record BlockersTried (masks levels : List ℕ) (held below P symbol s i : ℕ) : Type 0 where
+pub record BlockersTried (masks levels : List ℕ) (below P symbol s i : ℕ) : Type 0 where
   pub same : s ≡ symbol
-  pub searched : CoverSearched masks levels held 0 below P i
+  pub searched : CoverSearched masks levels (length masks) 0 below P i
 
-pub walk-starts : {masks levels : List ℕ} {held below P s : ℕ} → BlockersTried masks levels held below P s s 0
+pub walk-starts : {masks levels : List ℕ} {below P s : ℕ} → BlockersTried masks levels below P s s 0
 walk-starts = record { same = refl; searched = cover-starts }
 
-pub walk-goes : {masks levels : List ℕ} {held below P symbol s i : ℕ} → BlockersTried masks levels held below P symbol s i
-    → (b : Bool) → i < held → b ≡ covers below P (blockerAt masks levels i) → b ≡ false → BlockersTried masks levels held below P symbol s (i + 1)
+pub walk-goes : {masks levels : List ℕ} {below P symbol s i : ℕ} → BlockersTried masks levels below P symbol s i
+    → (b : Bool) → i < length masks → b ≡ covers below P (blockerAt masks levels i) → b ≡ false → BlockersTried masks levels below P symbol s (i + 1)
 walk-goes walk b l e f = record { same = walk .same; searched = cover-goes (walk .searched) b l e f }
 
-module _ {image masks levels : List ℕ} {held below X symbols s : ℕ} (tried : SymbolsTried image masks levels held below X symbols s) where
+-- the walk over tables of one length is over all their blockers
+walked-all : (test : Blocker → Bool) (masks levels : List ℕ) → length masks ≡ length levels
+    → any test (blockersFrom masks levels (length masks - 0) 0) ≡ any test (blockersIn masks levels)
+walked-all test masks levels e =
+    let all : length masks - 0 ≡ min (length masks) (length levels) = omega arith in
+    ap (λ (count : ℕ). any test (blockersFrom masks levels count 0)) all
+
+module _ {image masks levels : List ℕ} {below X symbols s : ℕ} (tried : SymbolsTried image masks levels below X symbols s) where
   pub symbol-known : s < symbols → s < symbolsOf image
   symbol-known l = rw (tried .count) at l
 
-  pub tried-all : symbols ≤ s
-      → Nothing ≡ foundOf (systemOf image) X (firstFrom (qualifies (systemOf image) (tableOf held masks levels) below X) (symbolsOf image) 0)
+  pub tried-all : symbols ≤ s → Nothing ≡ firstFound image masks levels below X
   unfolding foundOf
-  tried-all l = sym (rw (← tried .left, first-from-nowhere (qualifies (systemOf image) (tableOf held masks levels) below X) symbols s l))
+  tried-all l = sym (rw (← tried .left, first-from-nowhere (extending image masks levels below X) symbols s l))
 
   module _ (P : ℕ) (l : s < symbols) (back : P ≡ backward (rowsOf image s) X) where
-    goes : qualifies (systemOf image) (tableOf held masks levels) below X s ≡ false → SymbolsTried image masks levels held below X symbols (s + 1)
+    by-settled : (b : Bool) → b ≡ settled (initialOf image) (blockersIn masks levels) below X P → extending image masks levels below X s ≡ neg b
+    unfolding qualifies
+    by-settled b e = rw (← back, ← e)
+
+    goes : true ≡ settled (initialOf image) (blockersIn masks levels) below X P → SymbolsTried image masks levels below X symbols (s + 1)
+    unfolding neg
     goes e = record {
       count = tried .count;
-      left = sym (first-from-later (qualifies (systemOf image) (tableOf held masks levels) below X) symbols s l e) ∙ tried .left;
+      left = sym (first-from-later (extending image masks levels below X) symbols s l (by-settled true e)) ∙ tried .left;
     }
 
-    finds : qualifies (systemOf image) (tableOf held masks levels) below X s ≡ true
-        → At (record { 0 = s }) P ≡ foundOf (systemOf image) X (firstFrom (qualifies (systemOf image) (tableOf held masks levels) below X) (symbolsOf image) 0)
-    unfolding foundOf
-    finds e = sym (rw (← tried .left, first-from-here (qualifies (systemOf image) (tableOf held masks levels) below X) symbols s l e, back))
+    finds : false ≡ settled (initialOf image) (blockersIn masks levels) below X P → At (record { 0 = s }) P ≡ firstFound image masks levels below X
+    unfolding foundOf neg
+    finds e = sym (rw (← tried .left, first-from-here (extending image masks levels below X) symbols s l (by-settled false e), back))
 
     module _ (inside : Bool) (test : inside ≡ subset P X) where
-      pub try-inside : inside ≡ true → SymbolsTried image masks levels held below X symbols (s + 1)
-      unfolding qualifies neg _or_
-      try-inside t = goes (rw (← back, ← test, t))
+      pub try-inside : inside ≡ true → SymbolsTried image masks levels below X symbols (s + 1)
+      try-inside t = goes (settled-inside _ _ _ _ _ inside test t)
 
-      module _ (outside : inside ≡ false) where
-        qualifies-blocked : (b : Bool) → b ≡ blocked (systemOf image) (tableOf held masks levels) below P
-            → qualifies (systemOf image) (tableOf held masks levels) below X s ≡ neg b
-        unfolding qualifies _or_
-        qualifies-blocked b e = rw (← back, ← test, outside, ← e)
+      module _ (outside : inside ≡ false) (bottom : Bool) (at-bottom : bottom ≡ eqb below 0) where
+        module _ {head : Head} (read : ReadAs image head) (contains : Bool) (initial : contains ≡ subset (head .initial) P) (low : bottom ≡ true) where
+          by-initial : not contains ≡ settled (initialOf image) (blockersIn masks levels) below X P
+          by-initial =
+              let starts : contains ≡ subset (initialOf image) P = initial ∙ ap (λ (I : ℕ). subset I P) (head-initial read) in
+              settled-blocked _ _ _ _ _ inside test _ (blocked-bottom _ _ _ _ bottom at-bottom contains starts low) outside
 
-        -- at level 0
-        module _ {head : Head} (given : Given image head masks levels held) (contains : Bool) (initial : contains ≡ subset (head .initial) P) (bottom : below ≡ 0) where
-          at-bottom : neg contains ≡ blocked (systemOf image) (tableOf held masks levels) below P
-          at-bottom =
-              ap neg (initial ∙ ap (λ (I : ℕ). subset I P) (head-initial given))
-              ∙ sym (blocked-by-initial (systemOf image) (tableOf held masks levels) below P bottom)
+          pub try-short : contains ≡ false → SymbolsTried image masks levels below X symbols (s + 1)
+          try-short f = goes (sym (ap not f) ∙ by-initial)
 
-          pub try-short : contains ≡ false → SymbolsTried image masks levels held below X symbols (s + 1)
-          unfolding neg
-          try-short f = goes (qualifies-blocked (neg contains) at-bottom ∙ rw f)
+          pub find-bottom : contains ≡ true → At (record { 0 = s }) P ≡ firstFound image masks levels below X
+          find-bottom t = finds (sym (ap not t) ∙ by-initial)
 
-          pub find-bottom : contains ≡ true
-              → At (record { 0 = s }) P ≡ foundOf (systemOf image) X (firstFrom (qualifies (systemOf image) (tableOf held masks levels) below X) (symbolsOf image) 0)
-          unfolding neg
-          find-bottom t = finds (qualifies-blocked (neg contains) at-bottom ∙ rw t)
+        module _ {now i : ℕ} (walk : BlockersTried masks levels below P s now i) (paired : length masks ≡ length levels) (high : bottom ≡ false) where
+          by-blockers : (b : Bool) → b ≡ any (covers below P) (blockersFrom masks levels (length masks - 0) 0)
+              → b ≡ settled (initialOf image) (blockersIn masks levels) below X P
+          by-blockers b e =
+              let all : b ≡ any (covers below P) (blockersIn masks levels) = e ∙ walked-all (covers below P) masks levels paired in
+              settled-blocked _ _ _ _ _ inside test b (blocked-above _ _ _ _ bottom at-bottom b all high) outside
 
-        -- above it
-        module _ {now i : ℕ} (walk : BlockersTried masks levels held below P s now i) (above : below ≡ 0 → ⊥) where
-          pub try-covered : (b : Bool) → i < held → b ≡ covers below P (blockerAt masks levels i) → b ≡ true
-              → SymbolsTried image masks levels held below X symbols (now + 1)
-          unfolding neg
-          try-covered b h e t =
-              let on : true ≡ blocked (systemOf image) (tableOf held masks levels) below P =
-              cover-here (walk .searched) b h e t ∙ from-first (covers below P) masks levels held ∙ sym (blocked-by-blockers (systemOf image) (tableOf held masks levels) below P above) in
-              rw (walk .same) (goes (qualifies-blocked true on))
+          pub try-covered : (b : Bool) → i < length masks → b ≡ covers below P (blockerAt masks levels i) → b ≡ true
+              → SymbolsTried image masks levels below X symbols (now + 1)
+          try-covered b h e t = rw (walk .same) (goes (by-blockers true (cover-here (walk .searched) b h e t)))
 
-          pub find-open : held ≤ i
-              → At (record { 0 = now }) P ≡ foundOf (systemOf image) X (firstFrom (qualifies (systemOf image) (tableOf held masks levels) below X) (symbolsOf image) 0)
-          unfolding neg
-          find-open h =
-              let on : false ≡ blocked (systemOf image) (tableOf held masks levels) below P =
-              cover-nowhere (walk .searched) h ∙ from-first (covers below P) masks levels held ∙ sym (blocked-by-blockers (systemOf image) (tableOf held masks levels) below P above) in
-              rw (walk .same) (finds (qualifies-blocked false on))
+          pub find-open : length masks ≤ i → At (record { 0 = s }) P ≡ firstFound image masks levels below X
+          find-open h = finds (by-blockers false (cover-nowhere (walk .searched) h))
 
 -- the test of the backward set of Y by each symbol, before symbol s: it held so far, and the symbols from s on are left
 pub record EachTried (image : List ℕ) (test : ℕ → Bool) (Y symbols s : ℕ) : Type 0 where
   pub count : symbols ≡ symbolsOf image
   pub left : eachFrom (λ t. test (backward (rowsOf image t) Y)) (symbols - s) s ≡ eachFrom (λ t. test (backward (rowsOf image t) Y)) (symbolsOf image) 0
 
-pub each-starts : {image : List ℕ} {head : Head} {masks levels : List ℕ} {held : ℕ} {test : ℕ → Bool} {Y : ℕ} → Given image head masks levels held
-    → EachTried image test Y (head .symbols) 0
-each-starts {image} {head} {test = test} {Y = Y} given =
-    record {
-      count = head-symbols given;
-      left = ap (λ (count : ℕ). eachFrom (λ t. test (backward (rowsOf image t) Y)) count 0) (sub-zero (head .symbols) ∙ head-symbols given);
-    }
+pub each-starts : {image : List ℕ} {head : Head} {test : ℕ → Bool} {Y : ℕ} → ReadAs image head → EachTried image test Y (head .symbols) 0
+each-starts {image} {head} {test} {Y} read = record {
+  count = head-symbols read;
+  left = ap (λ (count : ℕ). eachFrom (λ t. test (backward (rowsOf image t) Y)) count 0) (sub-zero (head .symbols) ∙ head-symbols read);
+}
 
 module _ {image : List ℕ} {test : ℕ → Bool} {Y symbols s : ℕ} (tried : EachTried image test Y symbols s) where
   pub each-known : s < symbols → s < symbolsOf image

@@ -1,4 +1,5 @@
-// The machine's choices: the symbol that extends a pending case, the set that blocks it, and whether a blocker rises.
+// The machine's choices: the symbol that extends a pending case, the set that blocks it, and whether a blocker rises. Masks and levels are the part of
+// the blocker room that is in use.
 use automata::backward::backward;
 use automata::image::Head;
 use automata::image::Symbol;
@@ -6,13 +7,15 @@ use blockers::Level;
 use masks::State;
 ghost use mathlib.Core.Path.{_≡_};
 ghost use Prim.Native.Nat.{_<_};
-ghost use lib.ListN.{getD};
+ghost use lib.ListN.{length};
 ghost use Rattle.lists.specs.Lists.{firstFrom};
 ghost use Rattle.automata.specs.Image.{symbolsOf};
-ghost use Rattle.blockers.specs.Room.{tableOf};
-ghost use Rattle.machine.specs.Machine.{blocked as isBlocked, qualifies, passes as passesTest, withState, byStates, chosenFrom, hintAt, rises as risesTest};
+ghost use Rattle.machine.specs.Machine.{blocked as isBlocked, settled as isSettled, qualifies, passes as passesTest, withState, byStates};
+ghost use Rattle.machine.specs.Machine.{chosenFrom, hintAt, rises as risesTest};
+ghost use Rattle.machine.specs.Lent.{blockersIn};
 ghost use Rattle.machine.specs.Runs.{systemOf};
-ghost use Rattle.choices.specs.Found.{Given, settled as isSettled, foundOf, choiceOf};
+ghost use Rattle.blockers.specs.Room.{blockerAt};
+ghost use Rattle.choices.specs.Found.{ReadAs, foundOf, choiceOf};
 
 // The first symbol whose backward set of x is neither inside x nor blocked one level below, with that set; or that there is none.
 pub enum Found {
@@ -27,22 +30,13 @@ pub struct Choice {
 }
 
 // Whether the case is blocked at the level.
-pub fn blocked(
-    image: &[u8],
-    head: Head,
-    masks: &[u64],
-    levels: &[u32],
-    held: usize,
-    level: Level,
-    case: u64,
-) -> bool
-    requires { ⌜ Given (now image) head (now masks) (now levels) held ⌝ }
-    ensures { λ r. ⌜ r ≡ isBlocked (systemOf (now (image .entry))) (tableOf held (now (masks .entry)) (now (levels .entry))) (level .0) case ⌝ }
+pub fn blocked(initial: u64, masks: &[u64], levels: &[u32], level: Level, case: u64) -> bool
+    ensures { λ r. ⌜ r ≡ isBlocked initial (blockersIn (now (masks .entry)) (now (levels .entry))) (level .0) case ⌝ }
 {
-    if level.0 == 0 {
-        return !masks::subset(head.initial, case);
+    if level.equals(Level(0)) {
+        return !masks::subset(initial, case);
     }
-    blockers::covered(masks, levels, held, level, case)
+    blockers::covered(masks, levels, level, case)
 }
 
 // The first symbol, from 0 upward, that can extend the pending case x, with its backward set.
@@ -51,54 +45,46 @@ pub fn first_symbol(
     head: Head,
     masks: &[u64],
     levels: &[u32],
-    held: usize,
     below: Level,
     x: u64,
 ) -> Found
-    requires { ⌜ Given (now image) head (now masks) (now levels) held ⌝ }
-    ensures { λ r. ⌜ r ≡ foundOf (systemOf (now (image .entry))) x (firstFrom (qualifies (systemOf (now (image .entry))) (tableOf held (now (masks .entry)) (now (levels .entry))) (below .0) x) (symbolsOf (now (image .entry))) 0) ⌝ }
+    requires { ⌜ ReadAs (now image) head × (length (now masks) ≡ length (now levels)) ⌝ }
+    ensures { λ r. ⌜ r ≡ foundOf (systemOf (now (image .entry))) x
+        (firstFrom (qualifies (systemOf (now (image .entry))) (blockersIn (now (masks .entry)) (now (levels .entry))) (below .0) x)
+        (symbolsOf (now (image .entry))) 0) ⌝ }
 {
     'symbols: for s in 0..head.symbols {
-        let p = backward(image, Symbol(s), x);
+        let symbol = Symbol(s);
+        let p = backward(image, symbol, x);
         if masks::subset(p, x) {
             continue 'symbols;
         }
-        if below.0 == 0 {
+        if below.equals(Level(0)) {
             if masks::subset(head.initial, p) {
-                return Found::At(Symbol(s), p);
+                return Found::At(symbol, p);
             }
             continue 'symbols;
         }
         let mut i: usize = 0;
-        while i < held {
+        while i < masks.len() {
             if blockers::covers(masks[i], Level(levels[i]), below, p) {
                 continue 'symbols;
             }
             i += 1;
         }
-        return Found::At(Symbol(s), p);
+        return Found::At(symbol, p);
     }
     Found::Nothing
 }
 
 // Whether p, a backward set of y, is inside y or blocked one level below.
-fn settled(
-    image: &[u8],
-    head: Head,
-    masks: &[u64],
-    levels: &[u32],
-    held: usize,
-    below: Level,
-    y: u64,
-    p: u64,
-) -> bool
-    requires { ⌜ Given (now image) head (now masks) (now levels) held ⌝ }
-    ensures { λ r. ⌜ r ≡ isSettled (systemOf (now (image .entry))) (tableOf held (now (masks .entry)) (now (levels .entry))) (below .0) y p ⌝ }
+fn settled(initial: u64, masks: &[u64], levels: &[u32], below: Level, y: u64, p: u64) -> bool
+    ensures { λ r. ⌜ r ≡ isSettled initial (blockersIn (now (masks .entry)) (now (levels .entry))) (below .0) y p ⌝ }
 {
     if masks::subset(p, y) {
         return true;
     }
-    blocked(image, head, masks, levels, held, below, p)
+    blocked(initial, masks, levels, below, p)
 }
 
 // Whether y passes: it may take the place of x as what blocks x one level above `below`.
@@ -107,13 +93,12 @@ fn passes(
     head: Head,
     masks: &[u64],
     levels: &[u32],
-    held: usize,
     below: Level,
     x: u64,
     y: u64,
 ) -> bool
-    requires { ⌜ Given (now image) head (now masks) (now levels) held ⌝ }
-    ensures { λ r. ⌜ r ≡ passesTest (systemOf (now (image .entry))) (tableOf held (now (masks .entry)) (now (levels .entry))) (below .0) x y ⌝ }
+    requires { ⌜ ReadAs (now image) head ⌝ }
+    ensures { λ r. ⌜ r ≡ passesTest (systemOf (now (image .entry))) (blockersIn (now (masks .entry)) (now (levels .entry))) (below .0) x y ⌝ }
 {
     if !masks::subset(x, y) {
         return false;
@@ -124,13 +109,13 @@ fn passes(
     if !masks::within(head.states, y) {
         return false;
     }
-    let mut s: u8 = 0;
-    while s < head.symbols {
-        let p = backward(image, Symbol(s), y);
-        if !settled(image, head, masks, levels, held, below, y, p) {
+    let mut symbol = Symbol(0);
+    while symbol.0 < head.symbols {
+        let p = backward(image, symbol, y);
+        if !settled(head.initial, masks, levels, below, y, p) {
             return false;
         }
-        s += 1;
+        symbol = Symbol(symbol.0 + 1);
     }
     true
 }
@@ -141,43 +126,34 @@ fn with_state(
     head: Head,
     masks: &[u64],
     levels: &[u32],
-    held: usize,
     below: Level,
     x: u64,
     q: State,
     y: u64,
 ) -> u64
-    requires { ⌜ Given (now image) head (now masks) (now levels) held × (q .0 < 64) ⌝ }
-    ensures { λ r. ⌜ r ≡ withState (systemOf (now (image .entry))) (tableOf held (now (masks .entry)) (now (levels .entry))) (below .0) x (q .0) y ⌝ }
+    requires { ⌜ ReadAs (now image) head × (q .0 < 64) ⌝ }
+    ensures { λ r. ⌜ r ≡ withState (systemOf (now (image .entry))) (blockersIn (now (masks .entry)) (now (levels .entry))) (below .0) x (q .0) y ⌝ }
 {
     if masks::member(q, x) {
         return y;
     }
     let more = masks::insert(q, y);
-    if passes(image, head, masks, levels, held, below, x, more) {
+    if passes(image, head, masks, levels, below, x, more) {
         return more;
     }
     y
 }
 
 // The set that x grows to, as what blocks it one level above `below`.
-fn grow(
-    image: &[u8],
-    head: Head,
-    masks: &[u64],
-    levels: &[u32],
-    held: usize,
-    below: Level,
-    x: u64,
-) -> u64
-    requires { ⌜ Given (now image) head (now masks) (now levels) held ⌝ }
-    ensures { λ r. ⌜ r ≡ byStates (systemOf (now (image .entry))) (tableOf held (now (masks .entry)) (now (levels .entry))) (below .0) x ⌝ }
+fn grow(image: &[u8], head: Head, masks: &[u64], levels: &[u32], below: Level, x: u64) -> u64
+    requires { ⌜ ReadAs (now image) head ⌝ }
+    ensures { λ r. ⌜ r ≡ byStates (systemOf (now (image .entry))) (blockersIn (now (masks .entry)) (now (levels .entry))) (below .0) x ⌝ }
 {
     let mut y = x;
-    let mut q: u8 = 0;
-    while q < head.states {
-        y = with_state(image, head, masks, levels, held, below, x, State(q), y);
-        q += 1;
+    let mut q = State(0);
+    while q.0 < head.states {
+        y = with_state(image, head, masks, levels, below, x, q, y);
+        q = State(q.0 + 1);
     }
     y
 }
@@ -188,28 +164,28 @@ pub fn choose_set(
     head: Head,
     masks: &[u64],
     levels: &[u32],
-    held: usize,
     below: Level,
     x: u64,
     hints: &[u64],
     blocks: u64,
 ) -> Choice
-    requires { ⌜ Given (now image) head (now masks) (now levels) held ⌝ }
-    ensures { λ r. ⌜ choiceOf r ≡ chosenFrom (systemOf (now (image .entry))) (byStates (systemOf (now (image .entry)))) (tableOf held (now (masks .entry)) (now (levels .entry))) (below .0) x (hintAt (now (hints .entry)) blocks) ⌝ }
+    requires { ⌜ ReadAs (now image) head ⌝ }
+    ensures { λ r. ⌜ choiceOf r ≡ chosenFrom (systemOf (now (image .entry))) (byStates (systemOf (now (image .entry))))
+        (blockersIn (now (masks .entry)) (now (levels .entry))) (below .0) x (hintAt (now (hints .entry)) blocks) ⌝ }
 {
     let number = blocks as usize;
     if hints.len() <= number {
-        let mask = grow(image, head, masks, levels, held, below, x);
+        let mask = grow(image, head, masks, levels, below, x);
         return Choice { mask, hinted: 0 };
     }
     let hint = hints[number];
-    if passes(image, head, masks, levels, held, below, x, hint) {
+    if passes(image, head, masks, levels, below, x, hint) {
         return Choice {
             mask: hint,
             hinted: 1,
         };
     }
-    let mask = grow(image, head, masks, levels, held, below, x);
+    let mask = grow(image, head, masks, levels, below, x);
     Choice { mask, hinted: 0 }
 }
 
@@ -219,24 +195,24 @@ pub fn rises(
     head: Head,
     masks: &[u64],
     levels: &[u32],
-    held: usize,
     level: Level,
     place: usize,
 ) -> bool
-    requires { ⌜ Given (now image) head (now masks) (now levels) held × (place < held) ⌝ }
-    ensures { λ r. ⌜ r ≡ risesTest (systemOf (now (image .entry))) (tableOf held (now (masks .entry)) (now (levels .entry))) (level .0) (record { mask = getD (now (masks .entry)) place 0; level = getD (now (levels .entry)) place 0 }) ⌝ }
+    requires { ⌜ ReadAs (now image) head × (length (now masks) ≡ length (now levels)) × (place < length (now masks)) ⌝ }
+    ensures { λ r. ⌜ r ≡ risesTest (systemOf (now (image .entry))) (blockersIn (now (masks .entry)) (now (levels .entry))) (level .0)
+        (blockerAt (now (masks .entry)) (now (levels .entry)) place) ⌝ }
 {
-    if levels[place] != level.0 {
+    if !Level(levels[place]).equals(level) {
         return false;
     }
     let mask = masks[place];
-    let mut s: u8 = 0;
-    while s < head.symbols {
-        let p = backward(image, Symbol(s), mask);
-        if !blocked(image, head, masks, levels, held, level, p) {
+    let mut symbol = Symbol(0);
+    while symbol.0 < head.symbols {
+        let p = backward(image, symbol, mask);
+        if !blocked(head.initial, masks, levels, level, p) {
             return false;
         }
-        s += 1;
+        symbol = Symbol(symbol.0 + 1);
     }
     true
 }

@@ -5,21 +5,20 @@ use mathlib.Core.Bool.{Bool, true, false}
 use mathlib.Core.List.{List, [], _∷_, _++_, append-nil}
 use native.Mathlib.Nat.{sub-zero}
 use native.Mathlib.Omega.{arith}
-use lib.ListN.{length, getD}
+use lib.Dec.{eqb→eq}
+use lib.ListN.{length, take, getD}
 use Rattle.lists.specs.Tests.{neg}
+use Rattle.lists.proofs.Tests.{holds, and-left}
 use Rattle.lists.proofs.Lists.{keep-length}
-use Rattle.automata.specs.declared.image.Head.{Head}
 use Rattle.machine.specs.System.{System}
 use Rattle.machine.specs.Machine.{Blocker, leaves, staying, rises, risen, riseAlong}
-use Rattle.machine.specs.Lent.{blockersFrom}
-use Rattle.machine.specs.Runs.{systemOf}
-use Rattle.blockers.specs.Room.{tableOf, blockerAt, risenTable, RisesAt}
+use Rattle.machine.specs.Lent.{blockersFrom, blockersIn}
+use Rattle.blockers.specs.Room.{Holds, tableOf, blockerAt, RisesAt}
 use Rattle.blockers.proofs.Walks.{next-blocker, no-blocker}
 use Rattle.blockers.proofs.Changes.{risen-passed, risen-ahead}
-use Rattle.choices.specs.Found.{Given}
-use Rattle.choices.proofs.Passing.{rise-other}
-use Rattle.closing.specs.Close.{Becomes}
-use Rattle.closing.proofs.Composing.{becomes-own, becomes-table, becomes-masks-length, becomes-levels-length, becomes-holds, becomes-further, becomes-same}
+use Rattle.blockers.proofs.Parts.{part-table, part-blocker}
+use Rattle.closing.specs.Close.{risenAt, Becomes}
+use Rattle.closing.proofs.Composing.{becomes-same, Changed, unchanged, changed-further}
 
 -- one turn, by whether the blocker rises
 module _ (S : System) (turns j : ℕ) (passed : List Blocker) (blocker : Blocker) (ahead : List Blocker) where
@@ -125,85 +124,73 @@ one-more masks levels place =
     ap (λ (at : ℕ). blockersFrom masks levels place 0 ++ blockersFrom masks levels 1 at) s ∙ blockers-split masks levels place 1 0
 
 -- The walk at level j before a place: the table as it stands took the first one's place, and what the walk makes of it is what it makes of the first.
-pub record Walked (image : List ℕ) (head : Head) (first-masks first-levels : List ℕ) (held j count place : ℕ) (masks levels : List ℕ) : Type 0 where
+pub record Walked (S : System) (first-masks first-levels : List ℕ) (held j count place : ℕ) (masks levels : List ℕ) : Type 0 where
   pub within : place ≤ count
-  pub given : Given image head masks levels count
-  pub long-masks : length masks ≡ length first-masks
-  pub long-levels : length levels ≡ length first-levels
-  pub becomes : Becomes held (tableOf count masks levels) first-masks first-levels count masks levels
-  pub left : along (systemOf image) j (blockersFrom masks levels place 0) (blockersFrom masks levels (count - place) place)
-      ≡ riseAlong (systemOf image) (length (tableOf held first-masks first-levels)) j [] (tableOf held first-masks first-levels)
+  pub changed : Changed first-masks first-levels held count masks levels
+  pub left : along S j (blockersFrom masks levels place 0) (blockersFrom masks levels (count - place) place)
+      ≡ risenAt S j (tableOf held first-masks first-levels)
 
-pub walk-starts : {image : List ℕ} {head : Head} {masks levels : List ℕ} {held j : ℕ} → Given image head masks levels held
-    → Walked image head masks levels held j held 0 masks levels
+pub walk-starts : {S : System} {masks levels : List ℕ} {held j : ℕ} → Holds held masks levels → Walked S masks levels held j held 0 masks levels
 unfolding along blockersFrom
-walk-starts {image} {head} {masks} {levels} {held} {j} given = record {
+walk-starts {S} {masks} {levels} {held} {j} holds = record {
   within = omega arith;
-  given = given;
-  long-masks = refl;
-  long-levels = refl;
-  becomes = becomes-own (given .holds);
-  left = ap (λ (count : ℕ). along (systemOf image) j [] (tableOf count masks levels)) (sub-zero held);
+  changed = unchanged holds;
+  left = ap (λ (count : ℕ). along S j [] (tableOf count masks levels)) (sub-zero held);
 }
 
-module _ {image : List ℕ} {head : Head} {first-masks first-levels : List ℕ} {held j count place : ℕ} {masks levels : List ℕ}
-    (walked : Walked image head first-masks first-levels held j count place masks levels) where
-  pub walk-ends : count ≤ place → Becomes held
-      (riseAlong (systemOf image) (length (tableOf held first-masks first-levels)) j [] (tableOf held first-masks first-levels))
+module _ {S : System} {first-masks first-levels : List ℕ} {held j count place : ℕ} {masks levels : List ℕ}
+    (walked : Walked S first-masks first-levels held j count place masks levels) where
+  pub walk-ends : count ≤ place
+      → Becomes held (risenAt S j (tableOf held first-masks first-levels))
       first-masks first-levels count masks levels
   walk-ends l =
       let all : place ≡ count = omega (arith, walked .within) in
-      becomes-same (walked .becomes)
+      becomes-same (walked .changed .becomes)
       (ap (λ (k : ℕ). tableOf k masks levels) (sym all)
-      ∙ sym (along-ends (systemOf image) j (blockersFrom masks levels place 0))
-      ∙ ap (λ (rest : List Blocker). along (systemOf image) j (blockersFrom masks levels place 0) rest) (sym (no-blocker masks levels count place l))
+      ∙ sym (along-ends S j (blockersFrom masks levels place 0))
+      ∙ ap (λ (rest : List Blocker). along S j (blockersFrom masks levels place 0) rest) (sym (no-blocker masks levels count place l))
       ∙ walked .left)
 
-  module _ (b : Bool) (test : b ≡ rises (systemOf image) (tableOf count masks levels) j (blockerAt masks levels place)) (l : place < count) where
-    next : along (systemOf image) j (blockersFrom masks levels place 0) (blockersFrom masks levels (count - place) place)
-        ≡ along (systemOf image) j (blockersFrom masks levels place 0)
-        (blockerAt masks levels place ∷ blockersFrom masks levels (count - (place + 1)) (place + 1))
-    next = ap (λ (rest : List Blocker). along (systemOf image) j (blockersFrom masks levels place 0) rest) (next-blocker masks levels count place l)
+  module _ (l : place < count) where
+    abbrev ahead : List Blocker
+    ahead = blockersFrom masks levels (count - (place + 1)) (place + 1)
 
-    tested : rises (systemOf image) (blockersFrom masks levels place 0 ++ blockerAt masks levels place ∷ blockersFrom masks levels (count - (place + 1)) (place + 1)) j
-        (blockerAt masks levels place) ≡ b
-    tested = ap (λ (table : List Blocker). rises (systemOf image) table j (blockerAt masks levels place)) (table-apart masks levels count place l) ∙ sym test
+    next : along S j (blockersFrom masks levels place 0) (blockerAt masks levels place ∷ ahead)
+        ≡ risenAt S j (tableOf held first-masks first-levels)
+    next = ap (λ (rest : List Blocker). along S j (blockersFrom masks levels place 0) rest) (sym (next-blocker masks levels count place l)) ∙ walked .left
 
-    pub walk-passes : b ≡ false → Walked image head first-masks first-levels held j count (place + 1) masks levels
-    walk-passes n = record {
+    -- whether the blocker rises, by the part in use; and so by the table that the walk has come to
+    abbrev partRises : Bool
+    partRises = rises S (blockersIn (take count masks) (take count levels)) j (blockerAt (take count masks) (take count levels) place)
+
+    tested : {b : Bool} → b ≡ partRises
+        → rises S (blockersFrom masks levels place 0 ++ blockerAt masks levels place ∷ ahead) j (blockerAt masks levels place) ≡ b
+    tested test =
+        ap₂ (λ (table : List Blocker) (blocker : Blocker). rises S table j blocker)
+        (table-apart masks levels count place l ∙ sym (part-table (walked .changed .holds))) (sym (part-blocker (walked .changed .holds) l))
+        ∙ sym test
+
+    pub rises-exactly : {top : ℕ} → j < top → {b : Bool} → b ≡ true → b ≡ partRises → getD levels place 0 < top
+    unfolding rises
+    rises-exactly h t test = rw (eqb→eq (getD levels place 0) j (and-left _ _ (holds (tested test ∙ t)))) h
+
+    pub walk-passes : {b : Bool} → b ≡ false → b ≡ partRises → Walked S first-masks first-levels held j count (place + 1) masks levels
+    walk-passes f test = record {
       within = omega arith;
-      given = walked .given;
-      long-masks = walked .long-masks;
-      long-levels = walked .long-levels;
-      becomes = walked .becomes;
+      changed = walked .changed;
       left =
-          ap (λ (passed : List Blocker). along (systemOf image) j passed (blockersFrom masks levels (count - (place + 1)) (place + 1)))
-          (sym (one-more masks levels place))
-          ∙ sym (along-stays (systemOf image) j (blockersFrom masks levels place 0) (blockerAt masks levels place)
-          (blockersFrom masks levels (count - (place + 1)) (place + 1)) (tested ∙ n))
-          ∙ sym next
-          ∙ walked .left;
+          ap (λ (passed : List Blocker). along S j passed ahead) (sym (one-more masks levels place))
+          ∙ sym (along-stays S j (blockersFrom masks levels place 0) (blockerAt masks levels place) ahead (tested test ∙ f))
+          ∙ next;
     }
 
-    pub walk-rises : {count′ place′ : ℕ} {masks′ levels′ : List ℕ} → RisesAt count place masks levels count′ place′ masks′ levels′ → b ≡ true
-        → Walked image head first-masks first-levels held j count′ (place′ + 1) masks′ levels′
-    walk-rises {count′} {place′} {masks′} {levels′} rise n =
-        let change : Becomes count (risenTable count masks levels place) masks levels count′ masks′ levels′ =
-        record { count = rise .count; tables = rise .tables; few = rise .few } in
-        let table : List Blocker = blockersFrom masks levels (count - (place + 1)) (place + 1) in
-        let R : Blocker = risen (blockerAt masks levels place) in
-        record {
-          within = omega (arith, rise .below);
-          given = record { valid = walked .given .valid; read = walked .given .read; holds = becomes-holds change (walked .given .holds) };
-          long-masks = becomes-masks-length change (walked .given .holds .in-masks) ∙ walked .long-masks;
-          long-levels = becomes-levels-length change (walked .given .holds .in-levels) ∙ walked .long-levels;
-          becomes = becomes-further (walked .becomes) (becomes-same change (sym (becomes-table change)));
-          left =
-              ap₂ (λ (passed ahead : List Blocker). along (systemOf image) j passed ahead) (risen-passed rise) (risen-ahead rise)
-              ∙ sym (along-rises (systemOf image) j (blockersFrom masks levels place 0) (blockerAt masks levels place) table (tested ∙ n))
-              ∙ sym next
-              ∙ walked .left;
-        }
-
-  pub walk-other : place < count → (getD levels place 0 ≡ j → ⊥) → Walked image head first-masks first-levels held j count (place + 1) masks levels
-  walk-other l n = walk-passes false (rise-other (walked .given) j place n) l refl
+    pub walk-rises : {count′ place′ : ℕ} {masks′ levels′ : List ℕ} → RisesAt count place masks levels count′ place′ masks′ levels′
+        → {b : Bool} → b ≡ true → b ≡ partRises → Walked S first-masks first-levels held j count′ (place′ + 1) masks′ levels′
+    walk-rises rise t test = record {
+      within = omega (arith, rise .below);
+      changed = changed-further (walked .changed) (record { count = rise .count; tables = rise .tables; few = rise .few });
+      left =
+          ap₂ (λ (passed rest : List Blocker). along S j passed rest) (risen-passed rise) (risen-ahead rise)
+          ∙ sym (along-rises S j (blockersFrom masks levels place 0) (blockerAt masks levels place) ahead (tested test ∙ t))
+          ∙ next;
+    }

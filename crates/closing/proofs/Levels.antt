@@ -1,107 +1,118 @@
 -- The levels from 1 on: the rises at each, and the search for the lowest that holds no blocker. Assumes nothing.
 use Prim.Native.Nat.{ℕ, suc, _+_, _-_, _≤_, _<_}
-use mathlib.Core.Path.{_≡_, refl, sym, ap, ap₂, _∙_}
+use mathlib.Core.Path.{_≡_, refl, sym, ap, ap₂, fun-ext, _∙_}
 use mathlib.Core.Bool.{Bool, true, false}
-use mathlib.Core.List.{List, []}
+use mathlib.Core.List.{List}
 use mathlib.Core.Option.{Option, none, some}
 use native.Mathlib.Numerals.{add-one}
 use native.Mathlib.Omega.{arith}
-use lib.ListN.{length}
-use Rattle.lists.specs.Lists.{firstFrom}
+use borrow.Author.Tests.{leb-true, leb-false}
+use lib.Dec.{leb, eqb}
+use lib.ListN.{length, take}
+use Rattle.lists.specs.Tests.{neg}
+use Rattle.lists.specs.Lists.{any, firstFrom}
 use Rattle.lists.proofs.Lists.{first-from-here, first-from-later, first-from-nowhere}
-use Rattle.automata.specs.declared.image.Head.{Head}
 use Rattle.machine.specs.System.{System}
-use Rattle.machine.specs.Machine.{Blocker, riseAlong, riseLevels, noneAt, frame}
-use Rattle.machine.specs.Runs.{systemOf}
-use Rattle.blockers.specs.Room.{tableOf, Frames}
+use Rattle.machine.specs.Machine.{Blocker, riseLevels, frame}
+use Rattle.blockers.specs.Room.{Holds, tableOf, Frames}
 use Rattle.blockers.specs.declared.Level.{Level}
-use Rattle.choices.specs.Found.{Given}
+use Rattle.blockers.proofs.Parts.{part-none-at}
 use Rattle.closing.specs.declared.Lowest.{Lowest}
 use Rattle.closing.specs.declared.Lowest.the-variants.{At, Nothing}
-use Rattle.closing.specs.Close.{lowestNone, lowestOf, keptBy, isEmpty, Becomes, Closes, risenBy, emptyLevel, closedBy}
-use Rattle.closing.proofs.Composing.{becomes-own, becomes-table, becomes-masks-length, becomes-levels-length, becomes-holds, becomes-further, becomes-same}
+use Rattle.closing.specs.Close.{risenAt, risenBy, lowestNone, lowestOf, keptBy, isEmpty, Becomes, emptyLevel, closedBy, Closes}
+use Rattle.closing.proofs.Composing.{becomes-table, becomes-holds, becomes-further, becomes-same, Changed, unchanged, changed-further}
+
+-- a loop over the levels up to `top`, before level j
+pub record LevelsTo (top j : ℕ) : Type 0 where
+  pub most : j ≤ top + 1
+
+-- where the test at its head holds, one more level fits and brings the end nearer
+module _ {top j : ℕ} (to : LevelsTo top j) {within : Bool} (t : within ≡ true) (test : within ≡ leb j top) where
+  at-most : j ≤ top
+  at-most = leb-true j top (sym test ∙ t)
+
+  pub level-fits : {limit : ℕ} → top < limit → j < limit
+  level-fits h = omega (arith, at-most)
+
+  pub level-nears : {next : ℕ} → next ≡ j + 1 → (top + 1) - next < (top + 1) - j
+  level-nears e = omega (arith, at-most)
+
+  level-next : {next : ℕ} → next ≡ j + 1 → LevelsTo top next
+  level-next e = record { most = omega (arith, at-most) }
 
 -- The rises before level j: the table as it stands took the first one's place, and what the levels from j on make of it is what all make of the first.
-pub record LevelsRisen (image : List ℕ) (head : Head) (first-masks first-levels : List ℕ) (held top count j : ℕ) (masks levels : List ℕ) : Type 0 where
-  pub begun : 1 ≤ j
-  pub within : j ≤ top + 1
-  pub given : Given image head masks levels count
-  pub long-masks : length masks ≡ length first-masks
-  pub long-levels : length levels ≡ length first-levels
-  pub becomes : Becomes held (tableOf count masks levels) first-masks first-levels count masks levels
-  pub left : riseLevels (systemOf image) ((top + 1) - j) j (tableOf count masks levels)
-      ≡ riseLevels (systemOf image) top 1 (tableOf held first-masks first-levels)
+pub record LevelsRisen (S : System) (first-masks first-levels : List ℕ) (held top count j : ℕ) (masks levels : List ℕ) : Type 0 where
+  pub to : LevelsTo top j
+  pub changed : Changed first-masks first-levels held count masks levels
+  pub left : riseLevels S ((top + 1) - j) j (tableOf count masks levels) ≡ risenBy S top (tableOf held first-masks first-levels)
 
-pub levels-start : {image : List ℕ} {head : Head} {masks levels : List ℕ} {held top : ℕ} → Given image head masks levels held
-    → LevelsRisen image head masks levels held top held 1 masks levels
-levels-start {image} {head} {masks} {levels} {held} {top} given =
+pub levels-start : {S : System} {masks levels : List ℕ} {held top : ℕ} → Holds held masks levels
+    → LevelsRisen S masks levels held top held 1 masks levels
+levels-start {S} {masks} {levels} {held} {top} holds =
     let e : (top + 1) - 1 ≡ top = omega arith in
     record {
-      begun = omega arith;
-      within = omega arith;
-      given = given;
-      long-masks = refl;
-      long-levels = refl;
-      becomes = becomes-own (given .holds);
-      left = ap (λ (count : ℕ). riseLevels (systemOf image) count 1 (tableOf held masks levels)) e;
+      to = record { most = omega arith };
+      changed = unchanged holds;
+      left = ap (λ (count : ℕ). riseLevels S count 1 (tableOf held masks levels)) e;
     }
 
-module _ {image : List ℕ} {head : Head} {first-masks first-levels : List ℕ} {held top count j : ℕ} {masks levels : List ℕ}
-    (risen : LevelsRisen image head first-masks first-levels held top count j masks levels) where
+module _ {S : System} {first-masks first-levels : List ℕ} {held top count j : ℕ} {masks levels : List ℕ}
+    (risen : LevelsRisen S first-masks first-levels held top count j masks levels) {within : Bool} where
   pub levels-go : {count′ : ℕ} {masks′ levels′ : List ℕ}
-      → Becomes count (riseAlong (systemOf image) (length (tableOf count masks levels)) j [] (tableOf count masks levels)) masks levels count′ masks′ levels′
-      → j ≤ top → LevelsRisen image head first-masks first-levels held top count′ (j + 1) masks′ levels′
+      → Becomes count (risenAt S j (tableOf count masks levels)) masks levels count′ masks′ levels′
+      → within ≡ true → within ≡ leb j top → {next : ℕ} → next ≡ j + 1
+      → LevelsRisen S first-masks first-levels held top count′ next masks′ levels′
   unfolding riseLevels
-  levels-go {count′} {masks′} {levels′} change l =
-      let e : (top + 1) - j ≡ suc ((top + 1) - (j + 1)) = omega arith in
+  levels-go {count′} {masks′} {levels′} change t test {next} one =
+      let e : (top + 1) - j ≡ suc ((top + 1) - next) = omega (arith, at-most (risen .to) t test) in
       record {
-        begun = omega arith;
-        within = omega arith;
-        given = record { valid = risen .given .valid; read = risen .given .read; holds = becomes-holds change (risen .given .holds) };
-        long-masks = becomes-masks-length change (risen .given .holds .in-masks) ∙ risen .long-masks;
-        long-levels = becomes-levels-length change (risen .given .holds .in-levels) ∙ risen .long-levels;
-        becomes = becomes-further (risen .becomes) (becomes-same change (sym (becomes-table change)));
+        to = level-next (risen .to) t test one;
+        changed = changed-further (risen .changed) change;
         left =
-            ap₂ (λ (at : ℕ) (table : List Blocker). riseLevels (systemOf image) ((top + 1) - (j + 1)) at table) (add-one j) (becomes-table change)
-            ∙ ap (λ (turns : ℕ). riseLevels (systemOf image) turns j (tableOf count masks levels)) (sym e)
+            ap₂ (λ (at : ℕ) (table : List Blocker). riseLevels S ((top + 1) - next) at table) (one ∙ add-one j) (becomes-table change)
+            ∙ ap (λ (turns : ℕ). riseLevels S turns j (tableOf count masks levels)) (sym e)
             ∙ risen .left;
       }
 
-  pub levels-end : top < j
-      → Becomes held (riseLevels (systemOf image) top 1 (tableOf held first-masks first-levels)) first-masks first-levels count masks levels
+  pub levels-end : within ≡ false → within ≡ leb j top
+      → Becomes held (risenBy S top (tableOf held first-masks first-levels)) first-masks first-levels count masks levels
   unfolding riseLevels
-  levels-end l =
+  levels-end f test =
+      let l : top < j = leb-false j top (sym test ∙ f) in
       let e : 0 ≡ (top + 1) - j = omega arith in
-      becomes-same (risen .becomes) (ap (λ (turns : ℕ). riseLevels (systemOf image) turns j (tableOf count masks levels)) e ∙ risen .left)
+      becomes-same (risen .changed .becomes) (ap (λ (turns : ℕ). riseLevels S turns j (tableOf count masks levels)) e ∙ risen .left)
 
--- The search for the lowest level without a blocker, before level j: none was found, and the levels from j on are left.
-pub record LevelsTried (masks levels : List ℕ) (held top j : ℕ) : Type 0 where
-  pub within : j ≤ top + 1
-  pub left : firstFrom (noneAt (tableOf held masks levels)) ((top + 1) - j) j ≡ lowestNone (tableOf held masks levels) top
+-- The search for the lowest level that passes a test, before a level: none was found, and the levels from that one on are left.
+pub record LevelsTried (test : ℕ → Bool) (top : ℕ) (level : Level) : Type 0 where
+  pub to : LevelsTo top (level .0)
+  pub left : firstFrom test ((top + 1) - level .0) (level .0) ≡ firstFrom test top 1
 
-pub tries-start : {masks levels : List ℕ} {held top : ℕ} → LevelsTried masks levels held top 1
-unfolding lowestNone
-tries-start {masks} {levels} {held} {top} =
+pub tries-start : {test : ℕ → Bool} {top : ℕ} → LevelsTried test top (record { 0 = 1 })
+tries-start {test} {top} =
     let e : (top + 1) - 1 ≡ top = omega arith in
-    record { within = omega arith; left = ap (λ (count : ℕ). firstFrom (noneAt (tableOf held masks levels)) count 1) e }
+    record { to = record { most = omega arith }; left = ap (λ (count : ℕ). firstFrom test count 1) e }
 
-module _ {masks levels : List ℕ} {held top j : ℕ} (tried : LevelsTried masks levels held top j) where
-  module _ (b : Bool) (l : j ≤ top) (test : b ≡ noneAt (tableOf held masks levels) j) where
-    pub tries-find : b ≡ true → At (record { 0 = j }) ≡ lowestOf (lowestNone (tableOf held masks levels) top)
+module _ {test : ℕ → Bool} {top : ℕ} {level : Level} (tried : LevelsTried test top level) {within : Bool} where
+  module _ (t : within ≡ true) (level-test : within ≡ leb (level .0) top) {b : Bool} (none-test : b ≡ test (level .0)) where
+    pub tries-find : b ≡ true → At level ≡ lowestOf (firstFrom test top 1)
     unfolding lowestOf
-    tries-find t =
-        ap lowestOf
-        (sym (first-from-here (noneAt (tableOf held masks levels)) (top + 1) j (omega arith) (sym test ∙ t)) ∙ tried .left)
+    tries-find found =
+        let l : level .0 < top + 1 = omega (arith, at-most (tried .to) t level-test) in
+        ap lowestOf (sym (first-from-here test (top + 1) (level .0) l (sym none-test ∙ found)) ∙ tried .left)
 
-    pub tries-go : b ≡ false → LevelsTried masks levels held top (j + 1)
-    tries-go f = record {
-      within = omega arith;
-      left = sym (first-from-later (noneAt (tableOf held masks levels)) (top + 1) j (omega arith) (sym test ∙ f)) ∙ tried .left;
-    }
+    pub tries-go : {next : Level} → next .0 ≡ level .0 + 1 → b ≡ false → LevelsTried test top next
+    tries-go one f =
+        let l : level .0 < top + 1 = omega (arith, at-most (tried .to) t level-test) in
+        record {
+          to = level-next (tried .to) t level-test one;
+          left = rw one (sym (first-from-later test (top + 1) (level .0) l (sym none-test ∙ f)) ∙ tried .left);
+        }
 
-  pub tries-end : top < j → Nothing ≡ lowestOf (lowestNone (tableOf held masks levels) top)
+  pub tries-end : within ≡ false → within ≡ leb (level .0) top → Nothing ≡ lowestOf (firstFrom test top 1)
   unfolding lowestOf
-  tries-end l = ap lowestOf (sym (first-from-nowhere (noneAt (tableOf held masks levels)) (top + 1) j (omega arith)) ∙ tried .left)
+  tries-end f level-test =
+      let l : top < level .0 = leb-false (level .0) top (sym level-test ∙ f) in
+      ap lowestOf (sym (first-from-nowhere test (top + 1) (level .0) (omega arith)) ∙ tried .left)
 
 -- what the answer says of the level
 none-lowest : (o : Option ℕ) → lowestOf o ≡ Nothing → o ≡ none
@@ -117,11 +128,16 @@ some-lowest (some i) j e =
     ap (λ (level : Level). some (level .0)) same
 
 -- the close, by whether a level holds no blocker after the rises
-module _ (S : System) (top : ℕ) {held count : ℕ} {masks levels masks′ levels′ : List ℕ}
-    (risen : Becomes held (riseLevels S top 1 (tableOf held masks levels)) masks levels count masks′ levels′) (lowest : Lowest)
-    (found : lowest ≡ lowestOf (lowestNone (tableOf count masks′ levels′) top)) where
+module _ (S : System) (top : ℕ) {held count : ℕ} {masks levels masks′ levels′ : List ℕ} (holds : Holds held masks levels)
+    (risen : Becomes held (risenBy S top (tableOf held masks levels)) masks levels count masks′ levels′) (lowest : Lowest)
+    (found : lowest ≡ lowestOf (firstFrom (λ level. neg (any (λ other. eqb other level) (take count levels′))) top 1)) where
   same-level : lowestOf (emptyLevel S top (tableOf held masks levels)) ≡ lowest
-  same-level = ap (λ (table : List Blocker). lowestOf (lowestNone table top)) (sym (becomes-table risen)) ∙ sym found
+  unfolding lowestNone
+  same-level =
+      let levels-hold : count ≤ length levels′ = becomes-holds risen holds .in-levels in
+      ap (λ (table : List Blocker). lowestOf (lowestNone table top)) (sym (becomes-table risen))
+      ∙ ap (λ (test : ℕ → Bool). lowestOf (firstFrom test top 1)) (fun-ext (λ level. part-none-at count masks′ levels′ level levels-hold))
+      ∙ sym found
 
   pub closes-full : lowest ≡ Nothing → Closes S top held masks levels (record { held = count; empty = false }) masks′ levels′
   unfolding keptBy isEmpty

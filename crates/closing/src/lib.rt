@@ -2,17 +2,17 @@
 use automata::image::Head;
 use blockers::Level;
 ghost use mathlib.Core.Path.{_≡_};
-ghost use mathlib.Core.List.{[]};
 ghost use Prim.Native.Nat.{_<_};
-ghost use lib.ListN.{length};
+ghost use lib.Dec.{eqb};
+ghost use Rattle.lists.specs.Tests.{neg};
+ghost use Rattle.lists.specs.Lists.{any, firstFrom};
 ghost use Rattle.blockers.specs.Room.{Holds, tableOf};
-ghost use Rattle.machine.specs.Machine.{riseAlong, riseLevels};
 ghost use Rattle.machine.specs.Runs.{systemOf};
-ghost use Rattle.choices.specs.Found.{Given};
-ghost use Rattle.closing.specs.Close.{Becomes, Closes, lowestNone, lowestOf};
+ghost use Rattle.choices.specs.Found.{ReadAs};
+ghost use Rattle.closing.specs.Close.{risenAt, risenBy, lowestOf, Becomes, Closes};
 
 // The lowest level that holds no blocker, or that there is none.
-pub enum Lowest {
+enum Lowest {
     At(Level),
     Nothing,
 }
@@ -24,7 +24,7 @@ pub struct Closed {
 }
 
 // In table order, each blocker of this level that can rise does so; answers how many blockers are then held. A rise may close up the table before the
-// risen blocker, so the walk goes on behind where that one then stands. The level is tested here first: most blockers are of another.
+// risen blocker, so the walk goes on behind where that one then stands.
 fn rise_level(
     image: &[u8],
     head: Head,
@@ -33,17 +33,14 @@ fn rise_level(
     held: usize,
     level: Level,
 ) -> usize
-    requires { ⌜ Given (now image) head (now masks) (now levels) held × (level .0 < 4294967295) ⌝ }
-    ensures { λ r. ⌜ Becomes held (riseAlong (systemOf (now (image .entry))) (length (tableOf held (now (masks .entry)) (now (levels .entry)))) (level .0) [] (tableOf held (now (masks .entry)) (now (levels .entry)))) (now (masks .entry)) (now (levels .entry)) r (now (masks .exit)) (now (levels .exit)) ⌝ }
+    requires { ⌜ ReadAs (now image) head × Holds held (now masks) (now levels) × (level .0 < 4294967295) ⌝ }
+    ensures { λ r. ⌜ Becomes held (risenAt (systemOf (now (image .entry))) (level .0) (tableOf held (now (masks .entry)) (now (levels .entry))))
+        (now (masks .entry)) (now (levels .entry)) r (now (masks .exit)) (now (levels .exit)) ⌝ }
 {
     let mut count = held;
     let mut place: usize = 0;
     while place < count {
-        if levels[place] != level.0 {
-            place += 1;
-            continue;
-        }
-        if choices::rises(image, head, masks, levels, count, level, place) {
+        if choices::rises(image, head, &masks[..count], &levels[..count], level, place) {
             let kept = blockers::rise(masks, levels, count, place);
             count = kept.held;
             place = kept.place + 1;
@@ -63,29 +60,30 @@ fn rise_levels(
     held: usize,
     top: Level,
 ) -> usize
-    requires { ⌜ Given (now image) head (now masks) (now levels) held × (top .0 < 4294967295) ⌝ }
-    ensures { λ r. ⌜ Becomes held (riseLevels (systemOf (now (image .entry))) (top .0) 1 (tableOf held (now (masks .entry)) (now (levels .entry)))) (now (masks .entry)) (now (levels .entry)) r (now (masks .exit)) (now (levels .exit)) ⌝ }
+    requires { ⌜ ReadAs (now image) head × Holds held (now masks) (now levels) × (top .0 < 4294967295) ⌝ }
+    ensures { λ r. ⌜ Becomes held (risenBy (systemOf (now (image .entry))) (top .0) (tableOf held (now (masks .entry)) (now (levels .entry))))
+        (now (masks .entry)) (now (levels .entry)) r (now (masks .exit)) (now (levels .exit)) ⌝ }
 {
     let mut count = held;
-    let mut j: u32 = 1;
-    while j <= top.0 {
-        count = rise_level(image, head, masks, levels, count, Level(j));
-        j += 1;
+    let mut level = Level(1);
+    while level.is_at_most(top) {
+        count = rise_level(image, head, masks, levels, count, level);
+        level = level.above();
     }
     count
 }
 
-// The lowest level from 1 to `top` that holds no blocker.
-fn lowest_none(masks: &[u64], levels: &[u32], held: usize, top: Level) -> Lowest
-    requires { ⌜ Holds held (now masks) (now levels) × (top .0 < 4294967295) ⌝ }
-    ensures { λ r. ⌜ r ≡ lowestOf (lowestNone (tableOf held (now (masks .entry)) (now (levels .entry))) (top .0)) ⌝ }
+// The lowest level from 1 to `top` that none of these levels is.
+fn lowest_none(levels: &[u32], top: Level) -> Lowest
+    requires { ⌜ top .0 < 4294967295 ⌝ }
+    ensures { λ r. ⌜ r ≡ lowestOf (firstFrom (λ level. neg (any (λ other. eqb other level) (now (levels .entry)))) (top .0) 1) ⌝ }
 {
-    let mut tried: u32 = 1;
-    while tried <= top.0 {
-        if blockers::none_at(masks, levels, held, Level(tried)) {
-            return Lowest::At(Level(tried));
+    let mut level = Level(1);
+    while level.is_at_most(top) {
+        if blockers::none_at(levels, level) {
+            return Lowest::At(level);
         }
-        tried += 1;
+        level = level.above();
     }
     Lowest::Nothing
 }
@@ -99,11 +97,12 @@ pub fn close(
     held: usize,
     top: Level,
 ) -> Closed
-    requires { ⌜ Given (now image) head (now masks) (now levels) held × (top .0 < 4294967295) ⌝ }
-    ensures { λ r. ⌜ Closes (systemOf (now (image .entry))) (top .0) held (now (masks .entry)) (now (levels .entry)) r (now (masks .exit)) (now (levels .exit)) ⌝ }
+    requires { ⌜ ReadAs (now image) head × Holds held (now masks) (now levels) × (top .0 < 4294967295) ⌝ }
+    ensures { λ r. ⌜ Closes (systemOf (now (image .entry))) (top .0) held
+        (now (masks .entry)) (now (levels .entry)) r (now (masks .exit)) (now (levels .exit)) ⌝ }
 {
     let count = rise_levels(image, head, masks, levels, held, top);
-    let Lowest::At(level) = lowest_none(masks, levels, count, top) else {
+    let Lowest::At(level) = lowest_none(&levels[..count], top) else {
         return Closed {
             held: count,
             empty: false,

@@ -1,6 +1,7 @@
 // The program: reads an image from standard input, decides emptiness, and prints the five numbers of the run and then the frame or the word.
 // Proved of it is that it is safe and ends; what it prints is tried by running.
 use automata::image::Image;
+use blockers::Level;
 use checker::run::Counts;
 
 // The number of an image that was taken apart: 0 for one that holds an automaton.
@@ -17,7 +18,7 @@ fn print_counts(counts: Counts) {
     io::write_all(1, b" ");
     io::print_decimal(1, counts.steps);
     io::write_all(1, b" ");
-    io::print_decimal(1, counts.level);
+    io::print_decimal(1, counts.level.0 as u64);
     io::write_all(1, b" ");
     io::print_decimal(1, counts.blockers);
     io::write_all(1, b" ");
@@ -61,7 +62,7 @@ fn print_tables(counts: Counts, masks: &[u64], symbols: &[u8]) {
     let number = counts.number;
     match number {
         0 => print_masks(masks, counts.blockers),
-        1 => print_symbols(symbols, counts.level),
+        1 => print_symbols(symbols, counts.level.0 as u64),
         _ => {}
     }
     io::write_all(1, b"\n");
@@ -76,7 +77,7 @@ fn main() {
         print_counts(Counts {
             number: number_of(read),
             steps: 0,
-            level: 0,
+            level: Level(0),
             blockers: 0,
             accepted: 0,
         });

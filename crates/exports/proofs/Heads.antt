@@ -2,11 +2,10 @@
 use Prim.Native.Nat.{ℕ}
 use mathlib.Core.Path.{_≡_, sym}
 use mathlib.Core.List.{List, [], _∷_}
-use Rattle.automata.specs.Answers.{readImage}
+use Rattle.automata.specs.Answers.{readImage, imageNumber, headAfter}
 use Rattle.automata.specs.declared.image.Head.{Head}
 use Rattle.automata.specs.declared.image.Image.{Image}
 use Rattle.automata.specs.declared.image.Image.the-variants.{Valid, Refused}
-use Rattle.exports.specs.Interface.{imageNumber, headAfter}
 
 module _ (image before : List ℕ) (answer : Image) (read : answer ≡ readImage image) where
   module _ (number : ℕ) (e : answer ≡ Refused number) where

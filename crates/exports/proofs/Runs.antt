@@ -8,7 +8,7 @@ use Rattle.checker.specs.declared.run.Counts.{Counts}
 use Rattle.exports.specs.Interface.{countsOf, Ran}
 
 pub ran-is : (made : Counts) (masks levels cases symbols : List ℕ) (result : Result) → resultWith made masks levels cases symbols ≡ result
-    → Ran (made .number) (made .steps ∷ made .level ∷ made .blockers ∷ made .accepted ∷ []) masks levels cases symbols result
+    → Ran (made .number) (made .steps ∷ made .level .0 ∷ made .blockers ∷ made .accepted ∷ []) masks levels cases symbols result
 unfolding countsOf
 ran-is made masks levels cases symbols result e =
     record { numbered = ap (λ (x : Result). x .number) e; counted = ap countsOf e; tables = ap (λ (x : Result). x .tables) e }

@@ -1,11 +1,11 @@
 // The library's functions for C and Rust, as include/afa.h declares them.
 use automata::image::Image;
 ghost use mathlib.Core.Path.{_≡_};
-ghost use Rattle.automata.specs.Answers.{readImage};
+ghost use Rattle.automata.specs.Answers.{readImage, imageNumber, headAfter};
 ghost use Rattle.automata.specs.WordTest.{wordTest};
 ghost use Rattle.machine.specs.Runs.{runOf};
-ghost use Rattle.checker.specs.Whole.{lentOf};
-ghost use Rattle.exports.specs.Interface.{imageNumber, headAfter, Ran};
+ghost use Rattle.checker.specs.Stage.{lentOf, termsOf};
+ghost use Rattle.exports.specs.Interface.{Ran};
 
 // 0, and n, k, m, I and F in `head`; or the refusing number, and `head` as it was.
 #[no_mangle]
@@ -49,9 +49,14 @@ pub extern "C" fn afa_run(
     counts: &mut [u64; 4],
 ) -> u64
     ensures { λ r. ⌜ Ran r (now (counts .exit)) (now (masks .exit)) (now (levels .exit)) (now (cases .exit)) (now (symbols .exit))
-        (runOf (now (image .entry)) (lentOf (now (masks .entry)) (now (levels .entry)) (now (cases .entry)) (now (symbols .entry))) (now (hints .entry)) allowance) ⌝ }
+        (runOf (now (image .entry)) (lentOf (now (masks .entry)) (now (levels .entry)) (now (cases .entry)) (now (symbols .entry))) (termsOf (now (hints .entry)) allowance)) ⌝ }
 {
     let made = checker::run::run(image, masks, levels, cases, symbols, hints, allowance);
-    *counts = [made.steps, made.level, made.blockers, made.accepted];
+    *counts = [
+        made.steps,
+        made.level.0 as u64,
+        made.blockers,
+        made.accepted,
+    ];
     made.number
 }

@@ -4,7 +4,7 @@ use mathlib.Core.Path.{_≡_, refl, sym, ap, _∙_}
 use mathlib.Core.Bool.{Bool, true, false}
 use mathlib.Core.List.{List, [], _∷_, _++_}
 use mathlib.Core.Logic.{_⊎_, inl, inr}
-use mathlib.Core.Option.{none, some}
+use mathlib.Core.Option.{Option, none, some}
 use native.Mathlib.Decide.{ℕ-discrete}
 use native.Mathlib.Numerals.{add-one}
 use native.Mathlib.Omega.{arith}
@@ -12,8 +12,13 @@ use lib.Dec.{T}
 use lib.ListN.{length, getD, drop, drop-of-length-le}
 use lib.Seq.{drop-cons}
 use Rattle.lists.specs.Tests.{_and_, _or_, choose}
-use Rattle.lists.specs.Lists.{_∈_, here, there, Each, any, all, keep, firstOf, firstFrom, eachFrom}
+use Rattle.lists.specs.Lists.{_∈_, here, there, Each, any, all, keep, firstFrom, eachFrom}
 use Rattle.lists.proofs.Tests.{holds, fails, and-left, and-right, and-both, or-cases, or-left, or-right, decide}
+
+-- the first element for which the test holds
+unfoldable pub firstOf : {A : Type 0} → (A → Bool) → List A → Option A
+firstOf test [] = none
+firstOf test (x ∷ l) = let later = firstOf test l in choose (test x) (some x) later
 
 module _ {A : Type 0} where
   pub in-none : {x : A} → x ∈ [] → ⊥

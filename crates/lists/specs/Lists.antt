@@ -31,11 +31,6 @@ unfoldable pub keep : {A : Type 0} → (A → Bool) → List A → List A
 keep test [] = []
 keep test (x ∷ l) = choose (test x) (x ∷ keep test l) (keep test l)
 
--- the first element for which the test holds
-unfoldable pub firstOf : {A : Type 0} → (A → Bool) → List A → Option A
-firstOf test [] = none
-firstOf test (x ∷ l) = let later = firstOf test l in choose (test x) (some x) later
-
 -- of the `count` numbers from `start` on, the first for which the test holds
 unfoldable pub firstFrom : (ℕ → Bool) → ℕ → ℕ → Option ℕ
 firstFrom test zero start = none

@@ -1,19 +1,15 @@
 -- Two runs agree: where two systems have the same language and each run's verdict is right, the verdicts are the same, and the words found are
 -- equally long. Assumes nothing.
 use Prim.Native.Nat.{ℕ, _≤_}
-use mathlib.Core.Path.{_≡_, refl, sym, subst}
+use mathlib.Core.Path.{_≡_, sym, subst}
 use mathlib.Core.List.{List}
 use native.Mathlib.Omega.{arith}
 use lib.Dec.{T}
 use lib.ListN.{length}
-use Rattle.machine.specs.System.{System, Word, accepts, Lawful}
-use Rattle.machine.specs.Machine.{Growth, Rooms, Outcome, nonempty, empty, stepsLack, blockersLack, wordLacks, machine}
-use Rattle.machine.specs.Meaning.{Sound, NoneAccepted, Shortest, IsVerdict, SameLanguage, Agree, both-nonempty, both-empty}
-use Rattle.machine.proofs.Verdicts.{closed-none, RightAnswer, machine-right}
-
--- a system has its own language
-pub same-language-reflexive : (S : System) → SameLanguage S S
-same-language-reflexive S = record { words = λ word. (λ w. w, λ w. w); accepted = λ word w. refl }
+use Rattle.machine.specs.System.{System}
+use Rattle.machine.specs.Machine.{Outcome, nonempty, empty, stepsLack, blockersLack, wordLacks}
+use Rattle.machine.proofs.Language.{IsVerdict, Word, accepts, Lawful, NoneAccepted, Shortest, SameLanguage, Agree, both-nonempty, both-empty}
+use Rattle.machine.proofs.Verdicts.{closed-none, RightAnswer}
 
 -- either of the two may be named first
 pub same-language-symmetric : {S S′ : System} → SameLanguage S S′ → SameLanguage S′ S
@@ -39,15 +35,15 @@ none-shortest {word = word} same h none = let other = accepted-too same h in non
 
 module _ {S S′ : System} (lawful : Lawful S) (lawful′ : Lawful S′) (same : SameLanguage S S′) where
   -- two right verdicts about one language agree
-  pub right-verdicts-agree : (outcome outcome′ : Outcome) → IsVerdict outcome → IsVerdict outcome′ → RightAnswer S outcome → RightAnswer S′ outcome′
-      → Agree outcome outcome′
-  right-verdicts-agree (nonempty word c) (nonempty word′ c′) v v′ r r′ = both-nonempty (shortest-equal same (r .0) (r′ .0))
-  right-verdicts-agree (nonempty word c) (empty c′) v v′ r r′ = absurd (none-shortest same (r .0) (closed-none S′ lawful′ (c′ .table) r′))
+  pub right-verdicts-agree : (outcome outcome′ : Outcome) → IsVerdict outcome → IsVerdict outcome′ → RightAnswer S outcome
+      → RightAnswer S′ outcome′ → Agree outcome outcome′
+  right-verdicts-agree (nonempty word c) (nonempty word′ c′) v v′ r r′ = both-nonempty (shortest-equal same (r .shortest) (r′ .shortest))
+  right-verdicts-agree (nonempty word c) (empty c′) v v′ r r′ = absurd (none-shortest same (r .shortest) (closed-none S′ lawful′ (c′ .table) r′))
   right-verdicts-agree (nonempty word c) (stepsLack c′) v v′ r r′ = absurd v′
   right-verdicts-agree (nonempty word c) (blockersLack c′) v v′ r r′ = absurd v′
   right-verdicts-agree (nonempty word c) (wordLacks c′) v v′ r r′ = absurd v′
   right-verdicts-agree (empty c) (nonempty word′ c′) v v′ r r′ =
-      absurd (none-shortest (same-language-symmetric same) (r′ .0) (closed-none S lawful (c .table) r))
+      absurd (none-shortest (same-language-symmetric same) (r′ .shortest) (closed-none S lawful (c .table) r))
   right-verdicts-agree (empty c) (empty c′) v v′ r r′ = both-empty
   right-verdicts-agree (empty c) (stepsLack c′) v v′ r r′ = absurd v′
   right-verdicts-agree (empty c) (blockersLack c′) v v′ r r′ = absurd v′
@@ -55,12 +51,3 @@ module _ {S S′ : System} (lawful : Lawful S) (lawful′ : Lawful S′) (same :
   right-verdicts-agree (stepsLack c) outcome′ v v′ r r′ = absurd v
   right-verdicts-agree (blockersLack c) outcome′ v v′ r r′ = absurd v
   right-verdicts-agree (wordLacks c) outcome′ v v′ r r′ = absurd v
-
-  -- and so do two runs that come to a verdict, whatever their growth, hints, rooms and allowances
-  pub verdicts-agree : (grow grow′ : Growth) → Sound S grow → Sound S′ grow′ → (hints hints′ : List ℕ) (rooms rooms′ : Rooms) (allowance allowance′ : ℕ)
-      → IsVerdict (machine S grow hints rooms allowance) → IsVerdict (machine S′ grow′ hints′ rooms′ allowance′)
-      → Agree (machine S grow hints rooms allowance) (machine S′ grow′ hints′ rooms′ allowance′)
-  verdicts-agree grow grow′ sound sound′ hints hints′ rooms rooms′ allowance allowance′ v v′ =
-      right-verdicts-agree _ _ v v′
-      (machine-right S lawful grow sound hints rooms allowance)
-      (machine-right S′ lawful′ grow′ sound′ hints′ rooms′ allowance′)

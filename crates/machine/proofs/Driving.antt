@@ -1,137 +1,138 @@
--- What a run's end says of the machine, from the definitions alone: its steps were counted and fit the allowance, its configuration fits the rooms,
--- a run stops only where the machine stands still, and larger rooms or a larger allowance change no verdict. Assumes nothing.
-use Prim.Native.Nat.{ℕ, zero, suc, _≤_, _<_}
+-- A run is the chain whose calls are all given the same, so what is proved of chains is proved of runs. Assumes nothing.
+use Prim.Native.Nat.{ℕ, zero, suc, _+_, _-_, _^_, _≤_}
 use mathlib.Core.Path.{_≡_, refl, sym, ap, subst, _∙_}
-use mathlib.Core.Bool.{Bool, true, false}
-use mathlib.Core.List.{List}
+use mathlib.Core.List.{List, [], _∷_, _++_}
+use mathlib.Core.Logic.{_⊎_, inl, inr}
 use native.Mathlib.Omega.{arith}
-use borrow.Author.Tests.{lt-ltb, le-leb}
-use lib.ListN.{length}
+use lib.ListN.{length, replicate, length-replicate, replicate-append-replicate}
+use Rattle.lists.specs.Lists.{here, there, Each}
+use Rattle.lists.proofs.Lists.{in-left}
 use Rattle.machine.specs.System.{System}
-use Rattle.machine.specs.Machine.{Configuration, Growth, Rooms, beginning, Step}
-use Rattle.machine.specs.Machine.{step, Next, goesOn, ends, ifRoom, judge, drive, atStart, startWith, machine}
-use Rattle.machine.specs.Machine.{Outcome, nonempty, empty, stepsLack, blockersLack, wordLacks}
-use Rattle.machine.specs.Meaning.{Reached, first, next, OutOfSteps, OutOfBlockers, OutOfWord, IsVerdict}
-use Rattle.machine.proofs.Steps.{step-taken, madeBy, step-counts, made-counts, endsIn, driven}
-use Rattle.machine.proofs.Steps.{Judged, roomToOpen, extended, roomToBlock, closed, found, emptied, noRoomToOpen, noRoomToBlock, judged}
-use Rattle.machine.proofs.Steps.{Ending, byStart, byStep, byAllowance, machine-ends}
-use Rattle.machine.proofs.Standing.{Counted, judged-counted, reached-counted}
+use Rattle.machine.specs.Machine.{Configuration, Given, Rooms, Next, goesOn, ends, comesTo, advance, chain, begin, machine, Outcome}
+use Rattle.machine.specs.Meaning.{Lacks, WorksIn, EndedBy}
+use Rattle.machine.proofs.Language.{Lawful, Sound, Decided, IsVerdict}
+use Rattle.machine.proofs.Steps.{EndingCall, chain-ended-by, ended-stays, raise}
+use Rattle.machine.proofs.Chains.{Working, Done, AllSound, chain-working, chain-done, chain-decided, chain-within, chain-ends, Ended, working-steps, each-same}
+use Rattle.machine.proofs.Chains.{ended-last, ended-each, ended-advanced, ended-working, advanced-lacks, Raised, raisedNone, raisedMore}
+use Rattle.machine.proofs.Chains.{chain-joined, chain-verdict-stays}
 
-module _ {S : System} {grow : Growth} {hints : List ℕ} {rooms : Rooms} where
-  -- the number of steps made on the way
-  unfoldable pub stepsTo : {c : Configuration} → Reached S grow hints rooms c → ℕ
-  stepsTo first = 0
-  stepsTo (next reached e) = suc (stepsTo reached)
+-- calls that are all given the same
+all-same : (given : Given) (calls : List Given) → Each (λ g. g ≡ given) calls → calls ≡ replicate (length calls) given
+all-same given [] same = refl
+all-same given (call ∷ calls) same =
+    ap (λ (g : Given). g ∷ calls) (same call (here refl)) ∙ ap (λ (l : List Given). given ∷ l) (all-same given calls (λ g m. same g (there m)))
 
-  -- what is reached counts the steps made on the way
-  pub steps-counted : {c : Configuration} (reached : Reached S grow hints rooms c) → c .steps ≡ stepsTo reached
-  unfolding beginning stepsTo
-  steps-counted first = refl
-  steps-counted (next {c = c} reached e) = made-counts S grow hints rooms c e ∙ ap suc (steps-counted reached)
+-- the calls of a run
+abbrev callsOf : Given → List Given
+callsOf given = replicate (suc (given .allowance)) given
 
--- the configuration has its place in the rooms, and its steps were allowed
-pub record Fits (rooms : Rooms) (allowance : ℕ) (c : Configuration) : Type 0 where
-  pub counted : Counted rooms c
-  pub allowed : c .steps ≤ allowance
+module _ (S : System) (lawful : Lawful S) (rooms : Rooms) (given : Given) (sound : Sound S (given .grow)) where
+  calls-sound : (count : ℕ) → AllSound S (replicate count given)
+  calls-sound = each-same (λ g. Sound S (g .grow)) given sound
 
-module _ (S : System) (grow : Growth) (hints : List ℕ) (rooms : Rooms) (allowance : ℕ) where
-  -- what the run lacks where it stops without a verdict
-  abbrev Lacks : Outcome → Type 0
-  Lacks (nonempty word c) = Unit {0}
-  Lacks (empty c) = Unit {0}
-  Lacks (stepsLack c) = OutOfSteps S grow hints rooms allowance c
-  Lacks (blockersLack c) = OutOfBlockers S grow hints rooms allowance c
-  Lacks (wordLacks c) = OutOfWord S grow hints rooms allowance c
+  -- what holds of a configuration in which a run works
+  pub works-in : {c : Configuration} → WorksIn S rooms given c → Working S rooms c
+  works-in {c} e = chain-working S lawful rooms (replicate (c .steps) given) (calls-sound (c .steps)) e
 
-  -- a step that ends the run answers, or is one without room
-  ends-lacks : {c : Configuration} {st : Step} {outcome : Outcome} → Reached S grow hints rooms c → c .steps < allowance
-      → step S grow hints c ≡ st → Judged rooms c st (ends outcome) → Lacks outcome
-  ends-lacks reached l e found = tt
-  ends-lacks reached l e emptied = tt
-  ends-lacks reached l e (noRoomToOpen {d = d} k) =
-      record { reached = reached; allowed = l; after = d; following = e; full = omega (arith, reached-counted reached) }
-  ends-lacks reached l e (noRoomToBlock {d = d} k) = record { reached = reached; allowed = l; after = d; following = e; full = k }
+  -- the answer of each run is right, and its configuration fits the rooms
+  pub machine-done : {outcome : Outcome} → machine S rooms given ≡ ends outcome → Done S rooms outcome
+  unfolding machine
+  machine-done e = chain-done S lawful rooms (callsOf given) (calls-sound (suc (given .allowance))) e
 
-  -- so it is with each run
-  ending-lacks : {outcome : Outcome} → Ending S grow hints rooms allowance outcome → Lacks outcome
-  ending-lacks (byStart t) = tt
-  ending-lacks (byStep clear reached l j) = ends-lacks reached l refl j
-  ending-lacks (byAllowance clear reached e) = record { reached = reached; spent = e }
+  -- no run makes more steps than it is allowed
+  pub machine-allowed : comesTo (machine S rooms given) .steps ≤ given .allowance
+  unfolding machine
+  machine-allowed =
+      chain-within S rooms (given .allowance) (callsOf given)
+      (each-same (λ g. g .allowance ≤ given .allowance) given (omega arith) (suc (given .allowance)))
 
-  -- each of the three stops says where the machine stands still, and why
-  pub steps-lack : {c : Configuration} → machine S grow hints rooms allowance ≡ stepsLack c → OutOfSteps S grow hints rooms allowance c
-  steps-lack e = subst Lacks e (ending-lacks (machine-ends S grow hints rooms allowance))
+  -- a run that a step ended stood where 01's machine does after as many steps; without a verdict, that is where it lacks something
+  ended-by : {outcome : Outcome} → EndingCall S rooms (begin S) (callsOf given) outcome → EndedBy S rooms given outcome
+  ended-by {outcome} by =
+      let same : Each (λ g. g ≡ given) (callsOf given) = each-same (λ g. g ≡ given) given refl (suc (given .allowance)) in
+      let last : by .last ≡ given = ended-last S rooms (λ g. g ≡ given) same by in
+      let before : by .before ≡ replicate (length (by .before)) given
+      = all-same given (by .before) (λ g m. ended-each S rooms (λ x. x ≡ given) same by g (in-left (by .last ∷ by .later) m)) in
+      let lacks : Lacks S rooms (by .last) (by .at) outcome
+      = advanced-lacks S rooms (ended-working S lawful rooms (calls-sound (suc (given .allowance))) by .counted) (ended-advanced S rooms by) in
+      record {
+        at = by .at;
+        works = ap (λ (l : List Given). chain S rooms (begin S) l)
+            (ap (λ (k : ℕ). replicate k given) (working-steps S rooms (by .before) (by .reached)) ∙ sym before) ∙ by .reached;
+        ended = subst (λ (g : Given). advance S rooms g (goesOn (by .at)) ≡ ends outcome) last (by .ended);
+        lacks = subst (λ (g : Given). Lacks S rooms g (by .at) outcome) last lacks;
+      }
 
-  pub blockers-lack : {c : Configuration} → machine S grow hints rooms allowance ≡ blockersLack c → OutOfBlockers S grow hints rooms allowance c
-  blockers-lack e = subst Lacks e (ending-lacks (machine-ends S grow hints rooms allowance))
-
-  pub word-lacks : {c : Configuration} → machine S grow hints rooms allowance ≡ wordLacks c → OutOfWord S grow hints rooms allowance c
-  word-lacks e = subst Lacks e (ending-lacks (machine-ends S grow hints rooms allowance))
-
-  -- a step that ends the run counts one, or is not made
-  ends-allowed : {c : Configuration} {st : Step} {outcome : Outcome} → Judged rooms c st (ends outcome) → c .steps < allowance
-      → madeBy st .steps ≡ suc (c .steps) → endsIn outcome .steps ≤ allowance
-  ends-allowed found l e = omega arith
-  ends-allowed emptied l e = omega arith
-  ends-allowed (noRoomToOpen k) l e = omega arith
-  ends-allowed (noRoomToBlock k) l e = omega arith
-
-  -- however it ends, a run fits its rooms and its allowance
-  ending-fits : {outcome : Outcome} → Ending S grow hints rooms allowance outcome → Fits rooms allowance (endsIn outcome)
-  unfolding beginning
-  ending-fits (byStart t) = omega arith
-  ending-fits (byStep {c = c} clear reached l j) = record {
-    counted = judged-counted (step-taken c) j (reached-counted reached);
-    allowed = ends-allowed j l (step-counts S grow hints c);
-  }
-  ending-fits (byAllowance clear reached e) = record { counted = reached-counted reached; allowed = omega arith }
-
-  pub end-fits : Fits rooms allowance (endsIn (machine S grow hints rooms allowance))
-  end-fits = ending-fits (machine-ends S grow hints rooms allowance)
-
--- what was judged in smaller rooms and in larger ones is the same, unless the smaller ones lack a place
-abbrev Stays : Next → Next → Type 0
-Stays (goesOn d) larger = larger ≡ goesOn d
-Stays (ends outcome) larger = IsVerdict outcome → larger ≡ ends outcome
-
-module _ (rooms rooms′ : Rooms) (more-blockers : rooms .blockers ≤ rooms′ .blockers) (more-word : rooms .word ≤ rooms′ .word) where
-  -- larger rooms lack no place that smaller ones have
-  judged-stays : {c : Configuration} {st : Step} {n : Next} → Judged rooms c st n → Stays n (judge rooms′ c st)
-  unfolding judge ifRoom
-  judged-stays {c} (roomToOpen l) = rw (lt-ltb (c .level) (rooms′ .word) (omega arith))
-  judged-stays extended = refl
-  judged-stays (roomToBlock {d = d} l) = rw (le-leb (length (d .table)) (rooms′ .blockers) (omega arith))
-  judged-stays closed = refl
-  judged-stays found = λ v. refl
-  judged-stays emptied = λ v. refl
-  judged-stays (noRoomToOpen l) = λ v. absurd v
-  judged-stays (noRoomToBlock l) = λ v. absurd v
-
-  -- of any drive that comes to a verdict
-  drive-stays : (S : System) (grow : Growth) (hints : List ℕ) (left left′ : ℕ) (c : Configuration) → left ≤ left′
-      → IsVerdict (drive S grow hints rooms left c) → drive S grow hints rooms′ left′ c ≡ drive S grow hints rooms left c
-  unfolding drive
-  drive-stays S grow hints zero left′ c h v = absurd v
-  drive-stays S grow hints (suc left) zero c h v = absurd (omega arith)
-  drive-stays S grow hints (suc left) (suc left′) c h v =
-      at (λ d u. drive-stays S grow hints left left′ d (omega arith) u) (judge rooms c (step S grow hints c)) _
-      (judged-stays (judged (step S grow hints c) refl)) v
+  -- a run ends at its start or by a step
+  pub machine-ended : {outcome : Outcome} → machine S rooms given ≡ ends outcome → (begin S ≡ ends outcome) ⊎ EndedBy S rooms given outcome
+  unfolding machine
+  machine-ended {outcome} e = at (chain-ended-by S rooms (begin S) (callsOf given) e)
     where
-      at : ((d : Configuration) → IsVerdict (drive S grow hints rooms left d) → drive S grow hints rooms′ left′ d ≡ drive S grow hints rooms left d)
-          → (n larger : Next) → Stays n larger → IsVerdict (driven (drive S grow hints rooms left) n)
-          → driven (drive S grow hints rooms′ left′) larger ≡ driven (drive S grow hints rooms left) n
-      at rec (goesOn d) larger e u = ap (driven (drive S grow hints rooms′ left′)) e ∙ rec d u
-      at rec (ends outcome) larger e u = ap (driven (drive S grow hints rooms′ left′)) (e u)
+      at : (begin S ≡ ends outcome) ⊎ EndingCall S rooms (begin S) (callsOf given) outcome → (begin S ≡ ends outcome) ⊎ EndedBy S rooms given outcome
+      at (inl q) = inl q
+      at (inr by) = inr (ended-by by)
 
--- larger rooms and a larger allowance do not change a verdict
-pub verdict-stays : (S : System) (grow : Growth) (hints : List ℕ) (rooms rooms′ : Rooms) (allowance allowance′ : ℕ) {outcome : Outcome}
-    → rooms .blockers ≤ rooms′ .blockers → rooms .word ≤ rooms′ .word → allowance ≤ allowance′
-    → IsVerdict outcome → machine S grow hints rooms allowance ≡ outcome → machine S grow hints rooms′ allowance′ ≡ outcome
+  -- with 2^n places in either room and an allowance of 4^(n+1), a run ends with a verdict, after at most 4^(n+1) steps
+  pub machine-decided : 2 ^ S .states ≤ rooms .blockers → 2 ^ S .states ≤ rooms .word → 4 ^ suc (S .states) ≤ given .allowance
+      → {outcome : Outcome} → machine S rooms given ≡ ends outcome → Decided (4 ^ suc (S .states)) outcome
+  unfolding machine
+  machine-decided places levels enough e =
+      chain-decided S lawful rooms places levels (callsOf given) (calls-sound (suc (given .allowance)))
+      (each-same (λ g. 4 ^ suc (S .states) ≤ g .allowance) given enough (suc (given .allowance))) e
+
+-- every run ends
+pub machine-ends : (S : System) (rooms : Rooms) (given : Given) → Ended (machine S rooms given)
 unfolding machine
-verdict-stays S grow hints rooms rooms′ allowance allowance′ more-blockers more-word more-steps v e =
-    at (atStart S) (subst IsVerdict (sym e) v) ∙ e
-  where
-    at : (answer : Bool) → IsVerdict (startWith S grow hints rooms allowance answer)
-        → startWith S grow hints rooms′ allowance′ answer ≡ startWith S grow hints rooms allowance answer
-    at true u = refl
-    at false u = drive-stays rooms rooms′ more-blockers more-word S grow hints allowance allowance′ beginning more-steps u
+machine-ends S rooms given = chain-ends S rooms given
+
+-- one call more that is given the same
+pub one-call-more : (S : System) (rooms : Rooms) (given : Given) (count : ℕ) (n : Next)
+    → chain S rooms n (replicate (suc count) given) ≡ advance S rooms given (chain S rooms n (replicate count given))
+unfolding chain
+one-call-more S rooms given zero n = refl
+one-call-more S rooms given (suc count) n = one-call-more S rooms given count (advance S rooms given n)
+
+-- while a run works, as many calls were made as steps are counted, and no more than it is allowed
+pub calls-counted : (S : System) (rooms : Rooms) (given : Given) (count : ℕ) {c : Configuration}
+    → chain S rooms (begin S) (replicate count given) ≡ goesOn c → (c .steps ≡ count) × (c .steps ≤ given .allowance)
+calls-counted S rooms given count {c} e =
+    let counted = working-steps S rooms (replicate count given) e in
+    let within = chain-within S rooms (given .allowance) (replicate count given)
+    (each-same (λ g. g .allowance ≤ given .allowance) given (omega arith) count) in
+    (omega (arith, counted, length-replicate count given), subst (λ (n : Next). comesTo n .steps ≤ given .allowance) e within)
+
+-- a run that has ended after some of its calls has ended
+pub calls-suffice : (S : System) (rooms : Rooms) (given : Given) (count : ℕ) → count ≤ suc (given .allowance) → {outcome : Outcome}
+    → chain S rooms (begin S) (replicate count given) ≡ ends outcome → machine S rooms given ≡ ends outcome
+unfolding machine
+calls-suffice S rooms given count l {outcome} e =
+    let rest : List Given = replicate (suc (given .allowance) - count) given in
+    let all : count + (suc (given .allowance) - count) ≡ suc (given .allowance) = omega arith in
+    let split : replicate count given ++ rest ≡ callsOf given
+    = replicate-append-replicate count (suc (given .allowance) - count) given ∙ ap (λ (k : ℕ). replicate k given) all in
+    ap (λ (calls : List Given). chain S rooms (begin S) calls) (sym split)
+    ∙ chain-joined S rooms (begin S) (replicate count given) rest
+    ∙ ap (λ (n : Next). chain S rooms n rest) e
+    ∙ ended-stays S rooms outcome rest
+
+-- larger rooms and a larger allowance do not change a run's verdict
+same-raised : (given : Given) (more : ℕ) → given .allowance ≤ more → (count : ℕ) → Raised (replicate count given) (replicate count (raise more given))
+same-raised given more l zero = raisedNone
+same-raised given more l (suc count) = raisedMore l (same-raised given more l count)
+
+pub verdict-stays : (S : System) (rooms rooms′ : Rooms) (given : Given) (more : ℕ)
+    → rooms .blockers ≤ rooms′ .blockers → rooms .word ≤ rooms′ .word → given .allowance ≤ more
+    → {outcome : Outcome} → IsVerdict outcome → machine S rooms given ≡ ends outcome → machine S rooms′ (raise more given) ≡ ends outcome
+unfolding machine
+verdict-stays S rooms rooms′ given more more-blockers more-word l {outcome} v e =
+    let larger : Given = raise more given in
+    let few : List Given = replicate (suc (given .allowance)) larger in
+    let rest : List Given = replicate (more - given .allowance) larger in
+    let count : suc (given .allowance) + (more - given .allowance) ≡ suc more = omega arith in
+    let split : few ++ rest ≡ callsOf larger
+    = replicate-append-replicate (suc (given .allowance)) (more - given .allowance) larger ∙ ap (λ (k : ℕ). replicate k larger) count in
+    ap (λ (calls : List Given). chain S rooms′ (begin S) calls) (sym split)
+    ∙ chain-joined S rooms′ (begin S) few rest
+    ∙ ap (λ (n : Next). chain S rooms′ n rest)
+    (chain-verdict-stays S rooms rooms′ more-blockers more-word (same-raised given more l (suc (given .allowance))) v e)
+    ∙ ended-stays S rooms′ outcome rest

@@ -16,9 +16,8 @@ use Rattle.automata.specs.Acceptance.{Accepted}
 use Rattle.automata.specs.WordTest.{accepts as acceptsBack}
 use Rattle.automata.proofs.BackwardSets.{backward-monotone, backward-within}
 use Rattle.automata.proofs.AcceptedWords.{valid-proper, accepted-means}
-use Rattle.machine.specs.System.{takenBack, Word, accepts, Lawful}
-use Rattle.machine.specs.Meaning.{SameLanguage}
 use Rattle.machine.specs.Runs.{systemOf}
+use Rattle.machine.proofs.Language.{takenBack, Word, accepts, Lawful, SameLanguage}
 use Rattle.machine.proofs.WordTests.{same-accepts}
 
 -- the laws that the promises ask of a system hold of every valid image
@@ -72,10 +71,3 @@ same-language image other same =
           ∙ same-accepts (automatonOf image) (automatonOf other) same word known
           ∙ sym (system-accepts other word);
     }
-
--- and accept the same words by runs
-pub same-accepted : (image other word : List ℕ) → Valid image → Valid other → SameLanguage (systemOf image) (systemOf other)
-    → Accepted (automatonOf image) word → Accepted (automatonOf other) word
-same-accepted image other word valid valid′ same a =
-    let h = accepted-by-runs image valid word .0 a in
-    accepted-by-runs other valid′ word .1 (same .words word .0 (h .0), subst T (same .accepted word (h .0)) (h .1))

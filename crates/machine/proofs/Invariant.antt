@@ -2,22 +2,23 @@
 -- level, and that every final case is blocked below N, and at N where nothing is pending. Each step keeps it. Assumes nothing.
 use Prim.Native.Nat.{ℕ, zero, suc, _+_, _-_, _≤_, _<_}
 use mathlib.Core.Path.{_≡_, refl, sym, ap, _∙_}
+use mathlib.Core.Bool.{Bool, true, false}
 use mathlib.Core.List.{List, [], _∷_, _++_, append-nil, cons≢nil}
 use mathlib.Core.Logic.{_⊎_, inl, inr}
-use mathlib.Core.Option.{Option, none, some}
 use native.Mathlib.Decide.{decLe}
 use native.Mathlib.Omega.{arith}
 use lib.Dec.{T}
 use lib.ListN.{length}
-use Rattle.lists.specs.Tests.{neg}
-use Rattle.lists.specs.Lists.{_∈_, Each, firstOf}
-use Rattle.lists.proofs.Tests.{neg-fails, neg-neg}
-use Rattle.lists.proofs.Lists.{in-none, in-left, each-more, first-of-none, first-of-some}
+use Rattle.lists.specs.Tests.{neg, choose}
+use Rattle.lists.specs.Lists.{_∈_, here, there, Each}
+use Rattle.lists.proofs.Tests.{holds, fails}
+use Rattle.lists.proofs.Lists.{in-none, in-left, each-more}
 use Rattle.lists.proofs.Pairs.{nil}
 use Rattle.masks.specs.Sets.{subset, within}
 use Rattle.masks.proofs.Laws.{subset-reflexive, subset-transitive}
-use Rattle.machine.specs.System.{System, takenBack, Word, Lawful}
-use Rattle.machine.specs.Machine.{Blocker, Pending, blocked, leaves, riseLevels, wordOf, pendingFinal, finalPending, pendingAfter, qualifies}
+use Rattle.machine.specs.System.{System}
+use Rattle.machine.specs.Machine.{Blocker, Pending, blocked, leaves, riseLevels, wordOf, finalPending, pendingAfter, qualifies}
+use Rattle.machine.proofs.Language.{takenBack, Word, Lawful}
 use Rattle.machine.proofs.Tables.{Covered, Blocked, byInitial, blocked-means, means-blocked, covered-lower, covered-blocked, blocked-lower}
 use Rattle.machine.proofs.Tables.{Stands, blocked-stays-blocked}
 use Rattle.machine.proofs.Rising.{Kept, Grown, Enters, placed, placed-new, placed-from, entered-grown, levels-grown}
@@ -124,17 +125,35 @@ kept-higher {S} {low} {high} {table} l k = record { stands = λ b m. raise (k .s
     raise : {b : Blocker} → Stands S low table b → Stands S high table b
     raise h = record { positive = h .positive; low = omega (arith, h .low); clear = h .clear; inside = h .inside; backward = h .backward }
 
--- where no final case becomes pending, all are blocked
-finals-done : {S : System} (table : List Blocker) (N : ℕ) → finalPending S table N ≡ [] → FinalsBlocked S table N
-unfolding finalPending
-finals-done {S} table N = at (firstOf (λ F. neg (blocked S table N F)) (S .finals)) refl
+-- what becomes pending of some final cases: nothing, where all are blocked, or the first that is not
+pub data Waiting (S : System) (table : List Blocker) (N : ℕ) (finals : List ℕ) : List Pending → Type 0 where
+  noneWaits : Each (λ F. Blocked S table N F) finals → Waiting S table N finals []
+  oneWaits : (F : ℕ) → F ∈ finals → (Blocked S table N F → ⊥) → Waiting S table N finals (record { case = F; symbol = 0 } ∷ [])
+
+finals-wait : (S : System) (table : List Blocker) (N : ℕ) (finals : List ℕ) → Waiting S table N finals (finalPending (S .initial) finals table N)
+unfolding finalPending choose
+finals-wait S table N [] = noneWaits (λ F m. absurd (in-none m))
+finals-wait S table N (F ∷ finals) = at (blocked (S .initial) table N F) refl (finals-wait S table N finals)
   where
-    at : (o : Option ℕ) → firstOf (λ F. neg (blocked S table N F)) (S .finals) ≡ o → pendingFinal o ≡ [] → FinalsBlocked S table N
-    at none e q F m = blocked-means S table N F (neg-neg _ (first-of-none (λ G. neg (blocked S table N G)) (S .finals) e F m))
-    at (some G) e q F m = absurd (cons≢nil q)
+    later : {pending : List Pending} → Blocked S table N F → Waiting S table N finals pending → Waiting S table N (F ∷ finals) pending
+    later b (noneWaits all) = noneWaits (each-more b all)
+    later b (oneWaits G m f) = oneWaits G (there m) f
+
+    at : (b : Bool) → blocked (S .initial) table N F ≡ b → Waiting S table N finals (finalPending (S .initial) finals table N)
+        → Waiting S table N (F ∷ finals) (choose b (finalPending (S .initial) finals table N) (record { case = F; symbol = 0 } ∷ []))
+    at true e w = later (blocked-means S table N F (holds e)) w
+    at false e w = oneWaits F (here refl) (λ b. fails e (means-blocked b))
+
+-- where no final case becomes pending, all are blocked
+finals-done : {S : System} (table : List Blocker) (N : ℕ) → finalPending (S .initial) (S .finals) table N ≡ [] → FinalsBlocked S table N
+finals-done {S} table N = at (finals-wait S table N (S .finals))
+  where
+    at : {pending : List Pending} → Waiting S table N (S .finals) pending → pending ≡ [] → FinalsBlocked S table N
+    at (noneWaits all) e = all
+    at (oneWaits F m f) e = absurd (cons≢nil e)
 
 -- where nothing is pending after a block, all are blocked
-after-done : {S : System} (table : List Blocker) (N : ℕ) (rest : List Pending) → pendingAfter S table N rest ≡ [] → FinalsBlocked S table N
+after-done : {S : System} (table : List Blocker) (N : ℕ) (rest : List Pending) → pendingAfter (S .initial) (S .finals) table N rest ≡ [] → FinalsBlocked S table N
 unfolding pendingAfter
 after-done table N [] e = finals-done table N e
 after-done table N (p ∷ rest) e = absurd (cons≢nil e)
@@ -213,27 +232,26 @@ close-holds {S} {table} {N} inv = record {
 
 module _ {S : System} (lawful : Lawful S) (finalsClear : FinalsClear S) where
   -- a final case that becomes pending waits
-  finals-chain : {table : List Blocker} {N : ℕ} → 1 ≤ N → Each (Stands S (suc N) table) table → Chain S table N (finalPending S table N)
-  unfolding finalPending
-  finals-chain {table} {N} positive stands = at (firstOf (λ F. neg (blocked S table N F)) (S .finals)) refl
+  finals-chain : {table : List Blocker} {N : ℕ} → 1 ≤ N → Each (Stands S (suc N) table) table
+      → Chain S table N (finalPending (S .initial) (S .finals) table N)
+  finals-chain {table} {N} positive stands = at (finals-wait S table N (S .finals))
     where
-      at : (o : Option ℕ) → firstOf (λ F. neg (blocked S table N F)) (S .finals) ≡ o → Chain S table N (pendingFinal o)
-      at none e = nothing
-      at (some F) e =
-          let r = first-of-some (λ G. neg (blocked S table N G)) (S .finals) e in
+      at : {pending : List Pending} → Waiting S table N (S .finals) pending → Chain S table N pending
+      at (noneWaits all) = nothing
+      at (oneWaits F m f) =
           lowest
           (record {
-            comes = final (r .0);
+            comes = final m;
             high = positive;
-            free = λ i l c. neg-fails _ (r .1) (means-blocked (covered-blocked stands N (covered-lower (omega arith) (subset-reflexive F) c)));
-            clear = finalsClear F (r .0);
-            inside = lawful .finals-within F (r .0);
+            free = λ i l c. f (covered-blocked stands N (covered-lower (omega arith) (subset-reflexive F) c));
+            clear = finalsClear F m;
+            inside = lawful .finals-within F m;
           })
           nothing
 
   -- what is pending after a block forms a chain
   after-chain : {table : List Blocker} {N : ℕ} (rest : List Pending) → 1 ≤ N → Each (Stands S (suc N) table) table → Chain S table N rest
-      → Chain S table N (pendingAfter S table N rest)
+      → Chain S table N (pendingAfter (S .initial) (S .finals) table N rest)
   unfolding pendingAfter
   after-chain [] positive stands c = finals-chain positive stands
   after-chain (p ∷ rest) positive stands c = c
@@ -248,7 +266,7 @@ module _ {S : System} (lawful : Lawful S) (finalsClear : FinalsClear S) where
   }
 
   -- after an open
-  pub open-holds : {table : List Blocker} {N : ℕ} → Invariant S table N [] → Invariant S table (suc N) (finalPending S table (suc N))
+  pub open-holds : {table : List Blocker} {N : ℕ} → Invariant S table N [] → Invariant S table (suc N) (finalPending (S .initial) (S .finals) table (suc N))
   open-holds {table} {N} inv = record {
     kept = kept;
     chain = finals-chain (omega arith) (kept .stands);
@@ -292,7 +310,7 @@ module _ {S : System} (lawful : Lawful S) (finalsClear : FinalsClear S) where
 
     -- after a block
     pub block-holds : {mask : ℕ} → Passes S table (N - suc (length rest)) (p .case) mask
-        → Invariant S (placed table (entering N rest mask) []) N (pendingAfter S (placed table (entering N rest mask) []) N rest)
+        → Invariant S (placed table (entering N rest mask) []) N (pendingAfter (S .initial) (S .finals) (placed table (entering N rest mask) []) N rest)
     block-holds {mask} passing =
         let grown = block-grown inv passing in
         record {

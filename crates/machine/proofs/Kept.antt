@@ -1,10 +1,15 @@
 -- Every promise is kept. Assumes nothing.
 use Rattle.machine.specs.Promises.{Promises}
+use Rattle.automata.proofs.Reading.{reading-refused, reading-refused-values, reading-valid, reading-valid-values}
 use Rattle.machine.proofs.WordTests.{refuses-image, refuses-symbol, says-yes, says-no, same-answer}
-use Rattle.machine.proofs.RunsKept.{run-promises, runs-agree}
+use Rattle.machine.proofs.RunsKept.{run-promises, runs-agree, block-unpends}
 
 pub kept : Promises
 kept = record {
+  reader-refuses = reading-refused;
+  reader-leaves = λ image before refused. reading-refused-values image refused before;
+  reader-accepts = reading-valid;
+  reader-reads = λ image before valid. reading-valid-values image valid before;
   word-test-refuses-image = refuses-image;
   word-test-refuses-symbol = refuses-symbol;
   word-test-yes = says-yes;
@@ -12,4 +17,5 @@ kept = record {
   word-test-same = same-answer;
   runs = run-promises;
   runs-agree = runs-agree;
+  block-unpends = block-unpends;
 }

@@ -74,6 +74,26 @@ read-back (blocker ∷ table) masks levels =
     ap (λ (rest : List Blocker). blocker ∷ rest)
     (shifted (blocker .mask) (blocker .level) (column maskOf table ++ masks) (column levelOf table ++ levels) (length table) 0 ∙ read-back table masks levels)
 
+-- so they are where they stand in place of others
+pub read-back-table : (table : List Blocker) (old older : ℕ) (masks levels : List ℕ)
+    → blockersFrom (placed old (column maskOf table) masks) (placed older (column levelOf table) levels) (length table) 0 ≡ table
+unfolding placed
+read-back-table table old older masks levels =
+    rw (
+      append-assoc (column maskOf table) (replicate (old - length (column maskOf table)) 0) (drop (max old (length (column maskOf table))) masks),
+      append-assoc (column levelOf table) (replicate (older - length (column levelOf table)) 0) (drop (max older (length (column levelOf table))) levels),
+    )
+    (read-back table _ _)
+
+-- a column in place of a whole table: its entries, and 0 after them
+pub column-whole : {A : Type 0} (field : A → ℕ) (entries : List A) (old : ℕ) (before : List ℕ) → old ≡ length before → length entries ≤ length before
+    → placed old (column field entries) before ≡ column field entries ++ replicate (length before - length entries) 0
+column-whole field entries old before e l =
+    let long = column-length field entries in
+    ap (λ (k : ℕ). placed k (column field entries) before) e
+    ∙ placed-whole (column field entries) before (omega (arith, long))
+    ∙ ap (λ (n : ℕ). column field entries ++ replicate (length before - n) 0) long
+
 -- a column from last to first is as long too
 pub column-back-length : {A : Type 0} (field : A → ℕ) (entries : List A) → length (columnBack field entries) ≡ length entries
 unfolding columnBack

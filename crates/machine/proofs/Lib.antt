@@ -1,4 +1,5 @@
 -- Laws of the machine, by subject, and that every promise is kept.
+pub mod Language
 pub mod Tables
 pub mod Rising
 pub mod Passing
@@ -8,11 +9,15 @@ pub mod Verdicts
 pub mod Standing
 pub mod Measure
 pub mod Bound
-pub mod Driving
 pub mod Agreeing
+pub mod Chains
+pub mod Driving
+pub mod Unpending
 pub mod LentTables
 pub mod WordTests
 pub mod Images
+pub mod Judging
+pub mod RecordSteps
 pub mod RunsKept
 pub mod Kept
 pub mod StarredRight

@@ -16,8 +16,9 @@ use Rattle.lists.proofs.Counting.{bit, bit-most, bit-none, bit-monotone, bit-mo
 use Rattle.lists.proofs.Counting.{pigeonhole, covering}
 use Rattle.masks.specs.Sets.{subset, full}
 use Rattle.masks.proofs.Laws.{subset-reflexive, subset-transitive, within-below, full-within, suc-full, within-full}
-use Rattle.machine.specs.System.{System, Lawful}
+use Rattle.machine.specs.System.{System}
 use Rattle.machine.specs.Machine.{Blocker, blocked, noneAt}
+use Rattle.machine.proofs.Language.{Lawful}
 use Rattle.machine.proofs.Tables.{Blocked, blocked-covered, blocked-means, means-blocked, blocked-stays-blocked, Grows}
 use Rattle.machine.proofs.Rising.{Apart, Kept}
 
@@ -40,15 +41,15 @@ levels-held table N e =
 
 -- the pairs of a case within n and a level from 1 to 2^n at which the table blocks it
 unfoldable pub blockedPairs : System → List Blocker → ℕ
-blockedPairs S table = sum (2 ^ S .states) (λ X. sum (2 ^ S .states) (λ i. bit (blocked S table (suc i) X)))
+blockedPairs S table = sum (2 ^ S .states) (λ X. sum (2 ^ S .states) (λ i. bit (blocked (S .initial) table (suc i) X)))
 
 module _ (S : System) {old new : List Blocker} (grows : Grows old new) where
   -- a pair that is counted goes on being counted
-  blocked-bit : (i X : ℕ) → bit (blocked S old i X) ≤ bit (blocked S new i X)
+  blocked-bit : (i X : ℕ) → bit (blocked (S .initial) old i X) ≤ bit (blocked (S .initial) new i X)
   blocked-bit i X = bit-monotone _ _ (λ t. means-blocked (blocked-stays-blocked grows (blocked-means S old i X t)))
 
   -- and so for all levels of a case
-  blocked-levels : (X : ℕ) → sum (2 ^ S .states) (λ i. bit (blocked S old (suc i) X)) ≤ sum (2 ^ S .states) (λ i. bit (blocked S new (suc i) X))
+  blocked-levels : (X : ℕ) → sum (2 ^ S .states) (λ i. bit (blocked (S .initial) old (suc i) X)) ≤ sum (2 ^ S .states) (λ i. bit (blocked (S .initial) new (suc i) X))
   blocked-levels X = sum-monotone (2 ^ S .states) _ _ (λ i l. blocked-bit (suc i) X)
 
   -- a table that grows blocks no fewer pairs
@@ -100,16 +101,16 @@ module _ {S : System} (lawful : Lawful S) {top : ℕ} {table : List Blocker} (ke
       (sum-most-but-last (full (S .states)) (2 ^ S .states) row (λ X l. row-most X) row-full)
     where
       row : ℕ → ℕ
-      row X = sum (2 ^ S .states) (λ i. bit (blocked S table (suc i) X))
+      row X = sum (2 ^ S .states) (λ i. bit (blocked (S .initial) table (suc i) X))
 
       all : suc (full (S .states)) ≡ 2 ^ S .states
       all = suc-full (S .states)
 
       row-most : (X : ℕ) → row X ≤ 2 ^ S .states
-      row-most X = omega (arith, sum-most (2 ^ S .states) 1 (λ i. bit (blocked S table (suc i) X)) (λ i l. bit-most (blocked S table (suc i) X)))
+      row-most X = omega (arith, sum-most (2 ^ S .states) 1 (λ i. bit (blocked (S .initial) table (suc i) X)) (λ i l. bit-most (blocked (S .initial) table (suc i) X)))
 
-      none-full : (i : ℕ) → bit (blocked S table (suc i) (full (S .states))) ≤ 0
-      none-full i = omega (arith, bit-none (blocked S table (suc i) (full (S .states))) (λ t. full-unblocked i (blocked-means S table (suc i) _ t)))
+      none-full : (i : ℕ) → bit (blocked (S .initial) table (suc i) (full (S .states))) ≤ 0
+      none-full i = omega (arith, bit-none (blocked (S .initial) table (suc i) (full (S .states))) (λ t. full-unblocked i (blocked-means S table (suc i) _ t)))
 
       row-full : row (full (S .states)) ≡ 0
-      row-full = omega (arith, sum-most (2 ^ S .states) 0 (λ i. bit (blocked S table (suc i) (full (S .states)))) (λ i l. none-full i))
+      row-full = omega (arith, sum-most (2 ^ S .states) 0 (λ i. bit (blocked (S .initial) table (suc i) (full (S .states)))) (λ i l. none-full i))

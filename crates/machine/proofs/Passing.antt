@@ -13,15 +13,15 @@ use Rattle.lists.proofs.Tests.{holds, and-left, and-right, and-both, or-cases, 
 use Rattle.lists.proofs.Lists.{each-from-at, at-each-from}
 use Rattle.masks.specs.Sets.{subset, union, single, member, within}
 use Rattle.machine.specs.System.{System}
-use Rattle.machine.specs.Machine.{Blocker, Configuration, Growth, blocked, qualifies, passes}
+use Rattle.machine.specs.Machine.{Blocker, Configuration, Growth, Given, blocked, settled, qualifies, passes}
 use Rattle.machine.specs.Machine.{withState, withStates, byStates, hintAt, Choice, chosenFrom, chosen}
-use Rattle.machine.specs.Meaning.{Sound}
+use Rattle.machine.proofs.Language.{Sound}
 use Rattle.machine.proofs.Tables.{Blocked, blocked-means, means-blocked}
 
 -- a symbol that qualifies has a backward set that is not blocked
 pub qualified-free : (S : System) (table : List Blocker) (below X s : ℕ) → T (qualifies S table below X s)
     → Blocked S table below (S .backward s X) → ⊥
-unfolding qualifies
+unfolding qualifies settled
 qualified-free S table below X s t b = neg-fails _ t (or-right _ _ (means-blocked b))
 
 -- the backward set of Y by s is a subset of Y or blocked
@@ -30,15 +30,17 @@ Held S table below Y s = T (subset (S .backward s Y) Y) ⊎ Blocked S table belo
 
 module _ {S : System} {table : List Blocker} {below : ℕ} (Y s : ℕ) where
   -- the test as the proposition
-  held-means : T (subset (S .backward s Y) Y or blocked S table below (S .backward s Y)) → Held S table below Y s
+  held-means : T (settled (S .initial) table below Y (S .backward s Y)) → Held S table below Y s
+  unfolding settled
   held-means t = at (or-cases _ _ t)
     where
-      at : T (subset (S .backward s Y) Y) ⊎ T (blocked S table below (S .backward s Y)) → Held S table below Y s
+      at : T (subset (S .backward s Y) Y) ⊎ T (blocked (S .initial) table below (S .backward s Y)) → Held S table below Y s
       at (inl u) = inl u
       at (inr u) = inr (blocked-means S table below (S .backward s Y) u)
 
   -- the proposition as the test
-  means-held : Held S table below Y s → T (subset (S .backward s Y) Y or blocked S table below (S .backward s Y))
+  means-held : Held S table below Y s → T (settled (S .initial) table below Y (S .backward s Y))
+  unfolding settled
   means-held (inl u) = or-left _ _ u
   means-held (inr b) = or-right _ _ (means-blocked b)
 
@@ -81,20 +83,20 @@ pub data Chosen (S : System) (grow : Growth) (table : List Blocker) (below X : �
   grown : Chosen S grow table below X (record { mask = grow table below X; hinted = 0 })
 
 -- each block takes one of these
-pub chosen-is : (S : System) (grow : Growth) (hints : List ℕ) (c : Configuration) (below X : ℕ)
-    → Chosen S grow (c .table) below X (chosen S grow hints c below X)
-unfolding chosen choose
-chosen-is S grow hints c below X = from (hintAt hints (c .blocks))
+pub chosen-is : (S : System) (given : Given) (c : Configuration) (below X : ℕ)
+    → Chosen S (given .grow) (c .table) below X (chosen S given c below X)
+unfolding chosen chosenFrom choose
+chosen-is S given c below X = from (hintAt (given .hints) (c .blocks))
   where
     other : Choice
-    other = record { mask = grow (c .table) below X; hinted = 0 }
+    other = record { mask = given .grow (c .table) below X; hinted = 0 }
 
     at : (hint : ℕ) (b : Bool) → passes S (c .table) below X hint ≡ b
-        → Chosen S grow (c .table) below X (choose b (record { mask = hint; hinted = 1 }) other)
+        → Chosen S (given .grow) (c .table) below X (choose b (record { mask = hint; hinted = 1 }) other)
     at hint true e = hinted hint (holds e)
     at hint false e = grown
 
-    from : (o : Option ℕ) → Chosen S grow (c .table) below X (chosenFrom S grow (c .table) below X o)
+    from : (o : Option ℕ) → Chosen S (given .grow) (c .table) below X (chosenFrom S (given .grow) (c .table) below X o)
     from none = grown
     from (some hint) = at hint (passes S (c .table) below X hint) refl
 

@@ -1,20 +1,20 @@
 -- Every starred line of 01 is what the definitions compute. Assumes nothing.
 use mathlib.Core.Path.{refl}
 use Rattle.lists.specs.Tests.{_and_, _or_, neg, choose}
-use Rattle.lists.specs.Lists.{any, all, keep, firstOf, firstFrom, eachFrom}
+use Rattle.lists.specs.Lists.{any, all, keep, firstFrom, eachFrom}
 use Rattle.masks.specs.Sets.{member, subset, union, single, within}
 use Rattle.automata.specs.Bytes.{little2, little4, little8}
 use Rattle.automata.specs.Image.{spanStart, pairHolds, pairsHold, rowsFrom, rowsOf, rowHolds, rowsHold, outside, check, checkImage}
 use Rattle.automata.specs.Automaton.{withRow, withRows, backward, takenBack}
 use Rattle.automata.specs.WordTest.{oneIf, accepts, known, testWord, wordTest}
-use Rattle.machine.specs.Machine.{beginning, covers, blocked, pendingFinal, finalPending, openStep, qualifies, wordOf, extendStep, passes}
+use Rattle.machine.specs.Machine.{beginning, covers, blocked, finalPending, openStep, qualifies, wordOf, extendStep, passes}
 use Rattle.machine.specs.Machine.{withState, withStates, byStates, hintAt, chosenFrom, chosen, leaves, staying, pendingAfter, blockStep}
 use Rattle.machine.specs.Machine.{workOn, workStep, rises, risen, riseAlong, riseLevels, noneAt, frame, closeWith, closeStep}
-use Rattle.machine.specs.Machine.{step, ifRoom, judge, drive, atStart, startWith, machine}
-use Rattle.machine.specs.Lent.{column, placed}
-use Rattle.machine.specs.Runs.{refused, ended, resultOf, oddRooms, oversize, checkRooms, checkRun, outcomeOf, runOf}
+use Rattle.machine.specs.Machine.{settled, step, stepOn, judge, advance, chain, begin, machine}
+use Rattle.machine.specs.Lent.{column, columnBack, placed}
+use Rattle.machine.specs.Runs.{refused, numberOf, casesIn, symbolsIn, tablesAfter, resultOf, oddRooms, oversize, checkRooms, checkRun, endOf, runWith, runOf}
 use Rattle.machine.specs.Starred.{starred, Right, AllRight}
 
 pub starred-right : AllRight starred
-unfolding starred Right AllRight runOf checkRun checkRooms oddRooms oversize checkImage check outside pairsHold pairHolds spanStart rowsHold rowHolds little8 little4 little2 outcomeOf machine atStart startWith drive judge ifRoom beginning step workStep workOn openStep closeStep closeWith extendStep blockStep chosen chosenFrom hintAt byStates withStates withState passes blocked covers finalPending pendingFinal pendingAfter qualifies wordOf leaves staying rises risen riseAlong riseLevels noneAt frame rowsOf rowsFrom backward withRows withRow resultOf ended refused placed column wordTest testWord known accepts takenBack oneIf any all keep firstOf firstFrom eachFrom subset union single member within _and_ _or_ neg choose
+unfolding starred Right AllRight runOf runWith checkRun checkRooms oddRooms oversize checkImage check outside pairsHold pairHolds spanStart rowsHold rowHolds little8 little4 little2 endOf machine begin chain advance judge beginning step stepOn workStep workOn openStep closeStep closeWith extendStep blockStep chosen chosenFrom hintAt byStates withStates withState passes blocked covers finalPending pendingAfter qualifies settled wordOf leaves staying rises risen riseAlong riseLevels noneAt frame rowsOf rowsFrom backward withRows withRow resultOf numberOf casesIn symbolsIn tablesAfter refused placed columnBack column wordTest testWord known accepts takenBack oneIf any all keep firstFrom eachFrom subset union single member within _and_ _or_ neg choose
 starred-right = (refl, (refl, (refl, (refl, (refl, (refl, (refl, (refl, (refl, (refl, (refl, (refl, (refl, (refl, tt))))))))))))))

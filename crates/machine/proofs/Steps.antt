@@ -1,25 +1,26 @@
--- Which step is made and how a run ends, as data: a step with what was tested before it, and an outcome with the configuration that the run
--- reached. What holds of runs is then shown case by case. Assumes nothing.
-use Prim.Native.Nat.{ℕ, zero, suc, _+_, _-_, _≤_, _<_}
+-- Which step is made and what comes of a call, as data: a step with what was tested before it, and a call as the rooms and the allowance judge it. What
+-- one call keeps, a chain keeps. Assumes nothing.
+use Prim.Native.Nat.{ℕ, suc, _-_, _≤_, _<_}
 use mathlib.Core.Path.{_≡_, refl, sym, ap, subst, _∙_}
 use mathlib.Core.Bool.{Bool, true, false}
-use mathlib.Core.List.{List, [], _∷_}
+use mathlib.Core.List.{List, [], _∷_, _++_}
+use mathlib.Core.Logic.{_⊎_, inl, inr}
 use mathlib.Core.Option.{Option, none, some}
 use native.Mathlib.Omega.{arith}
-use borrow.Author.Tests.{ltb-true, ltb-false, leb-true, leb-false}
+use borrow.Author.Tests.{ltb-true, ltb-false, leb-true, leb-false, lt-ltb}
 use lib.Dec.{T, ltb, leb}
 use lib.ListN.{length}
-use Rattle.lists.specs.Lists.{firstFrom}
+use Rattle.lists.specs.Tests.{choose}
+use Rattle.lists.specs.Lists.{here, there, Each, firstFrom}
 use Rattle.lists.proofs.Tests.{holds, fails}
 use Rattle.lists.proofs.Lists.{first-from-none, first-from-some}
 use Rattle.masks.specs.Sets.{subset}
 use Rattle.machine.specs.System.{System}
-use Rattle.machine.specs.Machine.{Blocker, Pending, Configuration, Growth, Rooms, beginning}
+use Rattle.machine.specs.Machine.{Blocker, Pending, Configuration, Given, Rooms}
 use Rattle.machine.specs.Machine.{Step, opens, extends, blocks, closes, answersNonempty, answersEmpty}
-use Rattle.machine.specs.Machine.{qualifies, chosen, riseLevels, noneAt, openStep, extendStep, blockStep, closeWith}
-use Rattle.machine.specs.Machine.{workOn, stepOn, step, Next, goesOn, ends, ifRoom, judge}
-use Rattle.machine.specs.Machine.{Outcome, nonempty, empty, stepsLack, blockersLack, wordLacks, drive, atStart, startWith, machine}
-use Rattle.machine.specs.Meaning.{Reached, first, next}
+use Rattle.machine.specs.Machine.{qualifies, chosen, riseLevels, noneAt, openStep, extendStep, blockStep, closeWith, closeStep}
+use Rattle.machine.specs.Machine.{workOn, workStep, stepOn, step, Next, goesOn, ends, judge, advance, chain}
+use Rattle.machine.specs.Machine.{Outcome, nonempty, empty, stepsLack, blockersLack, wordLacks}
 
 -- one below the level of the case that waits before `rest`
 abbrev pub under : Configuration → List Pending → ℕ
@@ -30,33 +31,33 @@ abbrev pub closedTable : System → Configuration → List Blocker
 closedTable S c = riseLevels S (c .level) 1 (c .table)
 
 -- the step from c with these cases pending, open or not, and what was tested before it
-pub data Taken (S : System) (grow : Growth) (hints : List ℕ) (c : Configuration) : List Pending → Bool → Step → Type 0 where
-  opening : Taken S grow hints c [] false (openStep S c)
+pub data Taken (S : System) (given : Given) (c : Configuration) : List Pending → Bool → Step → Type 0 where
+  opening : Taken S given c [] false (openStep (S .initial) (S .finals) c)
   finding : {p : Pending} {rest : List Pending} {isOpen : Bool} (s : ℕ) → s < S .symbols
       → T (qualifies S (c .table) (under c rest) (p .case) s) → T (subset (S .initial) (S .backward s (p .case)))
-      → Taken S grow hints c (p ∷ rest) isOpen (extendStep S c p rest s true)
+      → Taken S given c (p ∷ rest) isOpen (extendStep S c p rest s true)
   extending : {p : Pending} {rest : List Pending} {isOpen : Bool} (s : ℕ) → s < S .symbols
       → T (qualifies S (c .table) (under c rest) (p .case) s) → (T (subset (S .initial) (S .backward s (p .case))) → ⊥)
-      → Taken S grow hints c (p ∷ rest) isOpen (extendStep S c p rest s false)
+      → Taken S given c (p ∷ rest) isOpen (extendStep S c p rest s false)
   blocking : {p : Pending} {rest : List Pending} {isOpen : Bool}
       → ((s : ℕ) → s < S .symbols → T (qualifies S (c .table) (under c rest) (p .case) s) → ⊥)
-      → Taken S grow hints c (p ∷ rest) isOpen (blockStep S c rest (under c rest) (chosen S grow hints c (under c rest) (p .case)))
-  closing : firstFrom (noneAt (closedTable S c)) (c .level) 1 ≡ none → Taken S grow hints c [] true (closeWith c (closedTable S c) none)
+      → Taken S given c (p ∷ rest) isOpen (blockStep (S .initial) (S .finals) c rest (under c rest) (chosen S given c (under c rest) (p .case)))
+  closing : firstFrom (noneAt (closedTable S c)) (c .level) 1 ≡ none → Taken S given c [] true (closeWith c (closedTable S c) none)
   emptying : (j : ℕ) → 1 ≤ j → j ≤ c .level → T (noneAt (closedTable S c) j)
-      → Taken S grow hints c [] true (closeWith c (closedTable S c) (some j))
+      → Taken S given c [] true (closeWith c (closedTable S c) (some j))
 
-module _ {S : System} {grow : Growth} {hints : List ℕ} where
+module _ {S : System} {given : Given} where
   -- with a symbol that qualifies: by whether its backward set contains I
   extend-taken : (c : Configuration) {p : Pending} {rest : List Pending} {isOpen : Bool} (s : ℕ) → s < S .symbols
       → T (qualifies S (c .table) (under c rest) (p .case) s) → (b : Bool) → subset (S .initial) (S .backward s (p .case)) ≡ b
-      → Taken S grow hints c (p ∷ rest) isOpen (extendStep S c p rest s b)
+      → Taken S given c (p ∷ rest) isOpen (extendStep S c p rest s b)
   extend-taken c s l t true e = finding s l t (holds e)
   extend-taken c s l t false e = extending s l t (fails e)
 
   -- with a pending case: by the first symbol that qualifies
   work-taken : (c : Configuration) (p : Pending) (rest : List Pending) {isOpen : Bool} (o : Option ℕ)
       → firstFrom (qualifies S (c .table) (under c rest) (p .case)) (S .symbols) 0 ≡ o
-      → Taken S grow hints c (p ∷ rest) isOpen (workOn S grow hints c p rest (under c rest) o)
+      → Taken S given c (p ∷ rest) isOpen (workOn S given c p rest (under c rest) o)
   unfolding workOn
   work-taken c p rest none e =
       blocking (λ s l. first-from-none (qualifies S (c .table) (under c rest) (p .case)) (S .symbols) 0 e s (omega arith) (omega arith))
@@ -66,21 +67,21 @@ module _ {S : System} {grow : Growth} {hints : List ℕ} where
 
   -- with nothing pending at an open level: by the lowest level that holds no blocker
   close-taken : (c : Configuration) (o : Option ℕ) → firstFrom (noneAt (closedTable S c)) (c .level) 1 ≡ o
-      → Taken S grow hints c [] true (closeWith c (closedTable S c) o)
+      → Taken S given c [] true (closeWith c (closedTable S c) o)
   close-taken c none e = closing e
   close-taken c (some j) e =
       let r = first-from-some (noneAt (closedTable S c)) (c .level) 1 e in
       emptying j (r .0) (omega arith) (r .2)
 
   -- by what is pending, and whether N is open
-  on-taken : (c : Configuration) (pending : List Pending) (isOpen : Bool) → Taken S grow hints c pending isOpen (stepOn S grow hints c pending isOpen)
-  unfolding stepOn
+  on-taken : (c : Configuration) (pending : List Pending) (isOpen : Bool) → Taken S given c pending isOpen (stepOn S given c pending isOpen)
+  unfolding stepOn workStep closeStep
   on-taken c (p ∷ rest) isOpen = work-taken c p rest (firstFrom (qualifies S (c .table) (under c rest) (p .case)) (S .symbols) 0) refl
   on-taken c [] true = close-taken c (firstFrom (noneAt (closedTable S c)) (c .level) 1) refl
   on-taken c [] false = opening
 
   -- the step from c
-  pub step-taken : (c : Configuration) → Taken S grow hints c (c .pending) (c .isOpen) (step S grow hints c)
+  pub step-taken : (c : Configuration) → Taken S given c (c .pending) (c .isOpen) (step S given c)
   unfolding step
   step-taken c = on-taken c (c .pending) (c .isOpen)
 
@@ -94,11 +95,11 @@ madeBy (answersNonempty word d) = d
 madeBy (answersEmpty d) = d
 
 -- each step counts one
-pub step-counts : (S : System) (grow : Growth) (hints : List ℕ) (c : Configuration) → madeBy (step S grow hints c) .steps ≡ suc (c .steps)
+pub step-counts : (S : System) (given : Given) (c : Configuration) → madeBy (step S given c) .steps ≡ suc (c .steps)
 unfolding openStep extendStep blockStep closeWith
-step-counts S grow hints c = at (step-taken c)
+step-counts S given c = at (step-taken c)
   where
-    at : {pending : List Pending} {isOpen : Bool} {st : Step} → Taken S grow hints c pending isOpen st → madeBy st .steps ≡ suc (c .steps)
+    at : {pending : List Pending} {isOpen : Bool} {st : Step} → Taken S given c pending isOpen st → madeBy st .steps ≡ suc (c .steps)
     at opening = refl
     at (finding s l t u) = refl
     at (extending s l t u) = refl
@@ -119,16 +120,16 @@ pub data Judged (rooms : Rooms) (c : Configuration) : Step → Next → Type 0 w
 
 -- each step is judged so
 judge-judged : {rooms : Rooms} {c : Configuration} (st : Step) → Judged rooms c st (judge rooms c st)
-unfolding judge ifRoom
+unfolding judge choose
 judge-judged {rooms} {c} (opens d) = at (ltb (c .level) (rooms .word)) refl
   where
-    at : (b : Bool) → ltb (c .level) (rooms .word) ≡ b → Judged rooms c (opens d) (ifRoom b d (wordLacks c))
+    at : (b : Bool) → ltb (c .level) (rooms .word) ≡ b → Judged rooms c (opens d) (choose b (goesOn d) (ends (wordLacks c)))
     at true e = roomToOpen (ltb-true _ _ e)
     at false e = noRoomToOpen (ltb-false _ _ e)
 judge-judged (extends d) = extended
 judge-judged {rooms} {c} (blocks d) = at (leb (length (d .table)) (rooms .blockers)) refl
   where
-    at : (b : Bool) → leb (length (d .table)) (rooms .blockers) ≡ b → Judged rooms c (blocks d) (ifRoom b d (blockersLack c))
+    at : (b : Bool) → leb (length (d .table)) (rooms .blockers) ≡ b → Judged rooms c (blocks d) (choose b (goesOn d) (ends (blockersLack c)))
     at true e = roomToBlock (leb-true _ _ e)
     at false e = noRoomToBlock (leb-false _ _ e)
 judge-judged (closes d) = closed
@@ -146,60 +147,124 @@ judged-made extended = refl
 judged-made (roomToBlock l) = refl
 judged-made closed = refl
 
--- a step that is made counts one
-pub made-counts : (S : System) (grow : Growth) (hints : List ℕ) (rooms : Rooms) (c : Configuration) {d : Configuration}
-    → judge rooms c (step S grow hints c) ≡ goesOn d → d .steps ≡ suc (c .steps)
-made-counts S grow hints rooms c e =
-    ap (λ (x : Configuration). x .steps) (sym (judged-made (judged (step S grow hints c) e))) ∙ step-counts S grow hints c
+-- a run works or has ended, not both
+abbrev isEnded : Next → ℕ
+isEnded (goesOn c) = 0
+isEnded (ends outcome) = 1
 
--- the configuration in which a run ends
-abbrev pub endsIn : Outcome → Configuration
-endsIn (nonempty word c) = c
-endsIn (empty c) = c
-endsIn (stepsLack c) = c
-endsIn (blockersLack c) = c
-endsIn (wordLacks c) = c
+pub works-or-ended : {c : Configuration} {outcome : Outcome} → goesOn c ≡ ends outcome → ⊥
+works-or-ended e = let z : _≡_ {A = ℕ} 0 1 = ap isEnded e in omega arith
 
--- the configuration in which a judged step leaves the run
-abbrev pub comesTo : Next → Configuration
-comesTo (goesOn d) = d
-comesTo (ends outcome) = endsIn outcome
+-- it works in one configuration, or has one outcome
+abbrev worksIn : Configuration → Next → Configuration
+worksIn other (goesOn c) = c
+worksIn other (ends outcome) = other
 
--- what a drive makes of a judged step: it goes on, or this is its end
-module _ (onward : Configuration → Outcome) where
-  abbrev pub driven : Next → Outcome
-  driven (goesOn d) = onward d
-  driven (ends outcome) = outcome
+pub works-once : {c d : Configuration} → goesOn c ≡ goesOn d → c ≡ d
+works-once {c} e = ap (worksIn c) e
 
--- how a run ends: at the start; with a step that answers or finds no room; or with the allowance used up
-pub data Ending (S : System) (grow : Growth) (hints : List ℕ) (rooms : Rooms) (allowance : ℕ) : Outcome → Type 0 where
-  byStart : atStart S ≡ true → Ending S grow hints rooms allowance (nonempty [] beginning)
-  byStep : {c : Configuration} {outcome : Outcome} → atStart S ≡ false → Reached S grow hints rooms c
-      → c .steps < allowance → Judged rooms c (step S grow hints c) (ends outcome) → Ending S grow hints rooms allowance outcome
-  byAllowance : {c : Configuration} → atStart S ≡ false → Reached S grow hints rooms c
-      → c .steps ≡ allowance → Ending S grow hints rooms allowance (stepsLack c)
+abbrev outcomeIn : Outcome → Next → Outcome
+outcomeIn other (goesOn c) = other
+outcomeIn other (ends outcome) = outcome
 
-module _ (S : System) (grow : Growth) (hints : List ℕ) (rooms : Rooms) (allowance : ℕ) where
-  -- a run that goes on from a configuration it has reached
-  drive-ends : atStart S ≡ false → (left : ℕ) (c : Configuration) → Reached S grow hints rooms c
-      → c .steps + left ≡ allowance → Ending S grow hints rooms allowance (drive S grow hints rooms left c)
-  unfolding drive
-  drive-ends clear zero c reached e = byAllowance clear reached (omega arith)
-  drive-ends clear (suc left) c reached e =
-      at (λ d r. drive-ends clear left d r) (judge rooms c (step S grow hints c)) refl
+pub ends-once : {o u : Outcome} → ends o ≡ ends u → o ≡ u
+ends-once {o} e = ap (outcomeIn o) e
+
+-- what comes of a call: the step is made, answers or finds no room; or its allowance is used up
+pub data Advanced (S : System) (rooms : Rooms) (given : Given) (c : Configuration) : Next → Type 0 where
+  tried : {n : Next} → c .steps < given .allowance → Judged rooms c (step S given c) n → Advanced S rooms given c n
+  spent : given .allowance ≤ c .steps → Advanced S rooms given c (ends (stepsLack c))
+
+-- The call that ended a chain: the calls before it left the machine working in `at`, and it ended there; those after it changed nothing.
+pub record EndingCall (S : System) (rooms : Rooms) (start : Next) (given : List Given) (outcome : Outcome) : Type 0 where
+  pub before : List Given
+  pub last : Given
+  pub later : List Given
+  pub at : Configuration
+  pub split : given ≡ before ++ last ∷ later
+  pub reached : chain S rooms start before ≡ goesOn at
+  pub ended : advance S rooms last (goesOn at) ≡ ends outcome
+
+module _ (S : System) (rooms : Rooms) where
+  -- each call of a working run comes out so
+  pub advanced : (given : Given) (c : Configuration) → Advanced S rooms given c (advance S rooms given (goesOn c))
+  unfolding advance choose
+  advanced given c = at (ltb (c .steps) (given .allowance)) refl
     where
-      at : ((d : Configuration) → Reached S grow hints rooms d → d .steps + left ≡ allowance
-          → Ending S grow hints rooms allowance (drive S grow hints rooms left d))
-          → (n : Next) → judge rooms c (step S grow hints c) ≡ n
-          → Ending S grow hints rooms allowance (driven (drive S grow hints rooms left) n)
-      at rec (goesOn d) q = rec d (next reached q) (omega (arith, made-counts S grow hints rooms c q))
-      at rec (ends outcome) q = byStep clear reached (omega arith) (judged (step S grow hints c) q)
+      at : (b : Bool) → ltb (c .steps) (given .allowance) ≡ b → Advanced S rooms given c (choose b (judge rooms c (step S given c)) (ends (stepsLack c)))
+      at true e = tried (ltb-true _ _ e) (judge-judged (step S given c))
+      at false e = spent (ltb-false _ _ e)
 
-  -- each run ends so
-  pub machine-ends : Ending S grow hints rooms allowance (machine S grow hints rooms allowance)
-  unfolding machine startWith beginning
-  machine-ends = at (atStart S) refl
-    where
-      at : (b : Bool) → atStart S ≡ b → Ending S grow hints rooms allowance (startWith S grow hints rooms allowance b)
-      at true e = byStart e
-      at false e = drive-ends e allowance beginning first (omega arith)
+  -- a call that goes on counts one
+  pub advanced-counts : {given : Given} {c d : Configuration} → Advanced S rooms given c (goesOn d) → d .steps ≡ suc (c .steps)
+  advanced-counts {given} {c} (tried l j) =
+      ap (λ (x : Configuration). x .steps) (sym (judged-made j)) ∙ step-counts S given c
+
+  -- within the allowance a call makes the step
+  pub advance-made : (given : Given) (c : Configuration) → c .steps < given .allowance
+      → advance S rooms given (goesOn c) ≡ judge rooms c (step S given c)
+  unfolding advance choose
+  advance-made given c l = rw (lt-ltb (c .steps) (given .allowance) l)
+
+  -- What holds of a run's beginning, and goes on holding with each call, holds of a chain: whatever the calls are given, as long as each is good.
+  pub chain-keeps : (P : Next → Type 0) (Good : Given → Type 0) → ((given : Given) (n : Next) → Good given → P n → P (advance S rooms given n))
+      → (n : Next) (given : List Given) → Each Good given → P n → P (chain S rooms n given)
+  unfolding chain
+  chain-keeps P Good keeps n [] good p = p
+  chain-keeps P Good keeps n (given ∷ later) good p =
+      chain-keeps P Good keeps (advance S rooms given n) later (λ g m. good g (there m)) (keeps given n (good given (here refl)) p)
+
+  -- a chain that has ended stays as it is
+  pub ended-stays : (outcome : Outcome) (given : List Given) → chain S rooms (ends outcome) given ≡ ends outcome
+  unfolding chain advance
+  ended-stays outcome [] = refl
+  ended-stays outcome (given ∷ later) = ended-stays outcome later
+
+  -- a call before a chain that had ended, or was ended by one of its calls
+  ended-before : {outcome : Outcome} (given : Given) (later : List Given) (n : Next)
+      → (advance S rooms given n ≡ ends outcome) ⊎ EndingCall S rooms (advance S rooms given n) later outcome
+      → (n ≡ ends outcome) ⊎ EndingCall S rooms n (given ∷ later) outcome
+  unfolding advance chain
+  ended-before given later (goesOn c) (inl e) =
+      inr (record { before = []; last = given; later = later; at = c; split = refl; reached = refl; ended = e })
+  ended-before given later (ends o) (inl e) = inl e
+  ended-before given later (goesOn c) (inr r) =
+      inr (record {
+        before = given ∷ r .before;
+        last = r .last;
+        later = r .later;
+        at = r .at;
+        split = ap (λ (l : List Given). given ∷ l) (r .split);
+        reached = r .reached;
+        ended = r .ended;
+      })
+  ended-before given later (ends o) (inr r) = absurd (works-or-ended (sym (sym (ended-stays o (r .before)) ∙ r .reached)))
+
+  -- a chain that has ended had ended at first, or was ended by one of its calls
+  pub chain-ended-by : {outcome : Outcome} (n : Next) (given : List Given) → chain S rooms n given ≡ ends outcome
+      → (n ≡ ends outcome) ⊎ EndingCall S rooms n given outcome
+  unfolding chain
+  chain-ended-by n [] e = inl e
+  chain-ended-by n (given ∷ later) e = ended-before given later n (chain-ended-by (advance S rooms given n) later e)
+
+-- the same with another allowance
+abbrev pub raise : ℕ → Given → Given
+raise allowance given = record { grow = given .grow; hints = given .hints; allowance = allowance }
+
+-- the allowance does not change a step
+work-raised : (S : System) (more : ℕ) (given : Given) (c : Configuration) (p : Pending) (rest : List Pending) (below : ℕ) (o : Option ℕ)
+    → workOn S (raise more given) c p rest below o ≡ workOn S given c p rest below o
+unfolding workOn chosen
+work-raised S more given c p rest below none = refl
+work-raised S more given c p rest below (some s) = refl
+
+pub step-raised : (S : System) (more : ℕ) (given : Given) (c : Configuration) → step S (raise more given) c ≡ step S given c
+unfolding step stepOn workStep
+step-raised S more given c = at (c .pending) (c .isOpen)
+  where
+    at : (pending : List Pending) (isOpen : Bool) → stepOn S (raise more given) c pending isOpen ≡ stepOn S given c pending isOpen
+    at (p ∷ rest) isOpen =
+        let below : ℕ = c .level - suc (length rest) in
+        work-raised S more given c p rest below (firstFrom (qualifies S (c .table) below (p .case)) (S .symbols) 0)
+    at [] true = refl
+    at [] false = refl

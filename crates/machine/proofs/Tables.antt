@@ -11,8 +11,9 @@ use Rattle.lists.proofs.Tests.{and-left, and-right, and-both, neg-fails, fails-
 use Rattle.lists.proofs.Lists.{any-some, some-any}
 use Rattle.masks.specs.Sets.{subset, within}
 use Rattle.masks.proofs.Laws.{subset-reflexive, subset-transitive}
-use Rattle.machine.specs.System.{System, takenBack, Word, accepts, Lawful}
+use Rattle.machine.specs.System.{System}
 use Rattle.machine.specs.Machine.{Blocker, covers, blocked}
+use Rattle.machine.proofs.Language.{takenBack, Word, accepts, Lawful}
 
 -- the case is a subset of a blocker of level i or more
 pub record Covered (table : List Blocker) (i X : ℕ) : Type 0 where
@@ -27,7 +28,7 @@ pub data Blocked (S : System) (table : List Blocker) : ℕ → ℕ → Type 0 wh
   byBlocker : {i X : ℕ} → Covered table (suc i) X → Blocked S table (suc i) X
 
 -- the test as the proposition
-pub blocked-means : (S : System) (table : List Blocker) (i X : ℕ) → T (blocked S table i X) → Blocked S table i X
+pub blocked-means : (S : System) (table : List Blocker) (i X : ℕ) → T (blocked (S .initial) table i X) → Blocked S table i X
 unfolding blocked covers
 blocked-means S table zero X t = byInitial (neg-fails _ t)
 blocked-means S table (suc i) X t =
@@ -35,7 +36,7 @@ blocked-means S table (suc i) X t =
     byBlocker (record { blocker = r .element; listed = r .listed; high = leb→le _ _ (and-left _ _ (r .passes)); inside = and-right _ _ (r .passes) })
 
 -- the proposition as the test
-pub means-blocked : {S : System} {table : List Blocker} {i X : ℕ} → Blocked S table i X → T (blocked S table i X)
+pub means-blocked : {S : System} {table : List Blocker} {i X : ℕ} → Blocked S table i X → T (blocked (S .initial) table i X)
 unfolding blocked covers
 means-blocked (byInitial f) = fails-neg _ f
 means-blocked {table = table} (byBlocker {i = i} {X = X} c) =

@@ -2,32 +2,33 @@
 -- frame shows that no word is accepted, and a run at level N has shown that no shorter word is. Assumes nothing.
 use Prim.Native.Nat.{ℕ, zero, suc, _-_, _≤_, _<_}
 use mathlib.Core.Path.{_≡_, refl, sym, subst}
-use mathlib.Core.Bool.{Bool, false}
+use mathlib.Core.Bool.{Bool, true, false}
 use mathlib.Core.List.{List, [], _∷_}
 use mathlib.Core.Logic.{_≢_}
 use native.Mathlib.Decide.{decLe}
 use native.Mathlib.Omega.{arith}
 use lib.Dec.{T, eqb, eqb-refl, lt→ltb, ltb→lt, ltb}
 use lib.ListN.{length}
-use Rattle.lists.specs.Lists.{_∈_, here, there, keep}
+use Rattle.lists.specs.Lists.{_∈_, here, there, any, keep}
 use Rattle.lists.proofs.Tests.{holds, fails, neg-fails}
 use Rattle.lists.proofs.Lists.{in-none, each-more, any-some, some-any, keep-in, in-keep}
 use Rattle.masks.specs.Sets.{subset}
 use Rattle.masks.proofs.Laws.{subset-reflexive, subset-transitive}
-use Rattle.machine.specs.System.{System, takenBack, Word, accepts, Lawful}
-use Rattle.machine.specs.Machine.{Blocker, Pending, Configuration, Growth, Rooms, beginning, staying, wordOf, noneAt, frame}
+use Rattle.machine.specs.System.{System}
+use Rattle.machine.specs.Machine.{Blocker, Pending, Configuration, Given, Rooms, beginning, staying, wordOf, noneAt, frame}
 use Rattle.machine.specs.Machine.{Step, opens, extends, blocks, closes, answersNonempty, answersEmpty}
-use Rattle.machine.specs.Machine.{openStep, extendStep, blockStep, closeWith, qualifies, step, goesOn, ends, atStart, machine}
+use Rattle.machine.specs.Machine.{openStep, extendStep, blockStep, closeWith, qualifies, step, Next, goesOn, ends}
 use Rattle.machine.specs.Machine.{Outcome, nonempty, empty, stepsLack, blockersLack, wordLacks}
-use Rattle.machine.specs.Meaning.{Sound, Inside, Closed, NoneAccepted, Shortest, Reached, first, next}
+use Rattle.machine.specs.Meaning.{Inside, Closed}
+use Rattle.machine.proofs.Language.{takenBack, Word, accepts, Lawful, Sound, NoneAccepted, Shortest}
 use Rattle.machine.proofs.Tables.{Covered, Blocked, blocked-covered, blocked-lower, blocked-accepts-none}
 use Rattle.machine.proofs.Rising.{placed}
 use Rattle.machine.proofs.Passing.{Passes, unqualified-held, chosen-is, chosen-passes}
 use Rattle.machine.proofs.Steps.{under, Taken, opening, finding, extending, blocking, closing, emptying, step-taken}
-use Rattle.machine.proofs.Steps.{Judged, roomToOpen, extended, roomToBlock, closed, found, emptied, noRoomToOpen, noRoomToBlock, judged}
-use Rattle.machine.proofs.Steps.{Ending, byStart, byStep, byAllowance, machine-ends}
+use Rattle.machine.proofs.Steps.{Judged, roomToOpen, extended, roomToBlock, closed, found, emptied, noRoomToOpen, noRoomToBlock}
+use Rattle.machine.proofs.Steps.{Advanced, tried, spent}
 use Rattle.machine.proofs.Invariant.{Invariant, FinalsClear, chain-lowest, chain-origin, word-length}
-use Rattle.machine.proofs.Invariant.{beginning-holds, open-holds, extend-holds, block-holds, close-holds}
+use Rattle.machine.proofs.Invariant.{open-holds, extend-holds, block-holds, close-holds}
 
 module _ (S : System) (lawful : Lawful S) where
   -- a closed frame contains whatever a word takes a final case back to
@@ -122,26 +123,30 @@ found-shortest {S} lawful {table} {N} {p} {rest} inv s l t =
 abbrev pub Holds : System → Configuration → Type 0
 Holds S c = Invariant S (c .table) (c .level) (c .pending)
 
+-- the word that a run finds: a shortest one, as long as the level
+pub record FoundWord (S : System) (word : List ℕ) (c : Configuration) : Type 0 where
+  pub shortest : Shortest S word
+  pub long : length word ≡ c .level
+
 -- a step that goes on keeps the invariant, and one that answers answers rightly
 abbrev pub Right : System → Step → Type 0
 Right S (opens d) = Holds S d
 Right S (extends d) = Holds S d
 Right S (blocks d) = Holds S d
 Right S (closes d) = Holds S d
-Right S (answersNonempty word d) = Shortest S word × (length word ≡ d .level)
+Right S (answersNonempty word d) = FoundWord S word d
 Right S (answersEmpty d) = Closed S (d .table)
 
 -- a verdict is right
 abbrev pub RightAnswer : System → Outcome → Type 0
-RightAnswer S (nonempty word c) = Shortest S word × (length word ≡ c .level)
+RightAnswer S (nonempty word c) = FoundWord S word c
 RightAnswer S (empty c) = Closed S (c .table)
 RightAnswer S (stepsLack c) = Unit {0}
 RightAnswer S (blockersLack c) = Unit {0}
 RightAnswer S (wordLacks c) = Unit {0}
 
 -- "if I is a subset of F" was answered no
-pub clear-finals : (S : System) → atStart S ≡ false → FinalsClear S
-unfolding atStart
+pub clear-finals : (S : System) → any (subset (S .initial)) (S .finals) ≡ false → FinalsClear S
 clear-finals S e F m t = fails e (some-any (subset (S .initial)) (S .finals) F m t)
 
 -- a pending case for which no symbol qualifies passes the block test itself
@@ -155,63 +160,48 @@ unqualified-passes {p = p} inv f = record {
   backward = λ s l. unqualified-held (p .case) s (f s l);
 }
 
-module _ (S : System) (lawful : Lawful S) (grow : Growth) (sound : Sound S grow) (hints : List ℕ) where
+module _ (S : System) (lawful : Lawful S) (clear : FinalsClear S) where
   -- each step from a configuration of which the invariant holds is right
-  pub step-right : FinalsClear S → (c : Configuration) → Holds S c → Right S (step S grow hints c)
+  pub step-right : (given : Given) → Sound S (given .grow) → (c : Configuration) → Holds S c → Right S (step S given c)
   unfolding openStep extendStep blockStep closeWith placed staying keep
-  step-right clear c inv = at (step-taken c) inv
+  step-right given sound c inv = at (step-taken c) inv
     where
-      at : {pending : List Pending} {isOpen : Bool} {st : Step} → Taken S grow hints c pending isOpen st → Invariant S (c .table) (c .level) pending
+      at : {pending : List Pending} {isOpen : Bool} {st : Step} → Taken S given c pending isOpen st → Invariant S (c .table) (c .level) pending
           → Right S st
       at opening h = open-holds lawful clear h
-      at (finding s l t u) h = found-shortest lawful h s l u
+      at (finding s l t u) h = let r = found-shortest lawful h s l u in record { shortest = r .0; long = r .1 }
       at (extending s l t u) h = extend-holds lawful clear h s l t u
       at (blocking {p = p} {rest = rest} f) h =
-          block-holds lawful clear h (chosen-passes sound (unqualified-passes h f) (chosen-is S grow hints c (under c rest) (p .case)))
+          block-holds lawful clear h (chosen-passes sound (unqualified-passes h f) (chosen-is S given c (under c rest) (p .case)))
       at (closing e) h = close-holds h
       at (emptying j l k t) h = frame-closed (close-holds h) j l k t
 
-  module _ (rooms : Rooms) where
-    -- the invariant holds of each configuration that a run reaches
-    pub reached-holds : atStart S ≡ false → {c : Configuration} → Reached S grow hints rooms c → Holds S c
-    unfolding beginning
-    reached-holds clear first = beginning-holds lawful (clear-finals S clear)
-    reached-holds clear (next {c = c} {d = d} reached e) =
-        goes (judged (step S grow hints c) e) (step-right (clear-finals S clear) c (reached-holds clear reached))
-      where
-        goes : {st : Step} → Judged rooms c st (goesOn d) → Right S st → Holds S d
-        goes (roomToOpen l) r = r
-        goes extended r = r
-        goes (roomToBlock l) r = r
-        goes closed r = r
+  -- what holds of a run that works, and of one that has ended
+  abbrev Stage : Next → Type 0
+  Stage (goesOn c) = Holds S c
+  Stage (ends outcome) = RightAnswer S outcome
 
-    -- a run that stands at level N has shown that no word of fewer than N symbols is accepted
-    pub reached-short : (c : Configuration) → atStart S ≡ false → Reached S grow hints rooms c
-        → (word : List ℕ) → Word S word → length word < c .level → T (accepts S word) → ⊥
-    reached-short c clear reached = short-unaccepted lawful (reached-holds clear reached)
+  -- a step as the rooms judge it
+  judged-right : {rooms : Rooms} {c : Configuration} {st : Step} {n : Next} → Right S st → Judged rooms c st n → Stage n
+  judged-right r (roomToOpen l) = r
+  judged-right r extended = r
+  judged-right r (roomToBlock l) = r
+  judged-right r closed = r
+  judged-right r found = r
+  judged-right r emptied = r
+  judged-right r (noRoomToOpen l) = tt
+  judged-right r (noRoomToBlock l) = tt
 
-    -- a step that answers ends the run with its answer
-    ends-right : {b : Configuration} {st : Step} {outcome : Outcome} → Judged rooms b st (ends outcome) → Right S st → RightAnswer S outcome
-    ends-right found r = r
-    ends-right emptied r = r
-    ends-right (noRoomToOpen l) r = tt
-    ends-right (noRoomToBlock l) r = tt
+  -- so does each call, whatever it is given, as long as it grows soundly
+  pub advanced-right : {rooms : Rooms} {given : Given} {c : Configuration} {n : Next} → Sound S (given .grow) → Holds S c
+      → Advanced S rooms given c n → Stage n
+  advanced-right {given = given} {c = c} sound h (tried l j) = judged-right (step-right given sound c h) j
+  advanced-right sound h (spent l) = tt
 
-    -- the answer of each run is right
-    ending-right : {allowance : ℕ} {outcome : Outcome} → Ending S grow hints rooms allowance outcome → RightAnswer S outcome
-    unfolding beginning accepts takenBack atStart
-    ending-right (byStart t) = (record { symbols = λ s m. absurd (in-none m); accepted = holds t; least = λ other w u. omega arith }, refl)
-    ending-right (byStep {c = c} clear reached l j) = ends-right j (step-right (clear-finals S clear) c (reached-holds clear reached))
-    ending-right (byAllowance clear reached e) = tt
-
-    pub machine-right : (allowance : ℕ) → RightAnswer S (machine S grow hints rooms allowance)
-    machine-right allowance = ending-right (machine-ends S grow hints rooms allowance)
-
-    -- the word that a run finds is a shortest accepted one, and as long as the level
-    pub nonempty-right : (allowance : ℕ) (word : List ℕ) (c : Configuration) → machine S grow hints rooms allowance ≡ nonempty word c
-        → Shortest S word × (length word ≡ c .level)
-    nonempty-right allowance word c e = subst (λ (o : Outcome). RightAnswer S o) e (machine-right allowance)
-
-    -- the frame that a run answers is closed
-    pub empty-right : (allowance : ℕ) (c : Configuration) → machine S grow hints rooms allowance ≡ empty c → Closed S (c .table)
-    empty-right allowance c e = subst (λ (o : Outcome). RightAnswer S o) e (machine-right allowance)
+-- the answer at the start is right
+pub start-right : (S : System) → any (subset (S .initial)) (S .finals) ≡ true → RightAnswer S (nonempty [] beginning)
+unfolding beginning accepts takenBack
+start-right S e = record {
+  shortest = record { symbols = λ s m. absurd (in-none m); accepted = holds e; least = λ other w u. omega arith };
+  long = refl;
+}

@@ -1,5 +1,5 @@
 -- What lent tables say of a configuration, and what stands in them after a change: one reading and one writing for all of them. Assumes nothing.
-use Prim.Native.Nat.{ℕ, zero, suc, _-_, max}
+use Prim.Native.Nat.{ℕ, zero, suc, _-_, min, max}
 use mathlib.Core.List.{List, [], _∷_, _++_}
 use lib.ListN.{length, getD, drop, replicate}
 use Rattle.machine.specs.Machine.{Blocker, Pending}
@@ -9,6 +9,10 @@ unfoldable pub blockersFrom : List ℕ → List ℕ → ℕ → ℕ → List Blo
 blockersFrom masks levels zero at = []
 blockersFrom masks levels (suc count) at =
     record { mask = getD masks at 0; level = getD levels at 0 } ∷ blockersFrom masks levels count (suc at)
+
+-- the blockers of a table of masks and one of levels: where they differ in length, the shorter says how many
+abbrev pub blockersIn : List ℕ → List ℕ → List Blocker
+blockersIn masks levels = blockersFrom masks levels (min (length masks) (length levels)) 0
 
 -- the first `count` pending cases, of a table of cases and one of symbols: "the case pending at the highest level in its first place and the lower
 -- ones after it, each with the symbol that led to it", so the lowest stands last and comes first here

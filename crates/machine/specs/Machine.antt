@@ -5,9 +5,9 @@ use mathlib.Core.Bool.{Bool, true, false}
 use mathlib.Core.List.{List, [], _∷_, _++_}
 use mathlib.Core.Option.{Option, none, some}
 use lib.Dec.{leb, ltb, eqb}
-use lib.ListN.{length}
+use lib.ListN.{length, replicate}
 use Rattle.lists.specs.Tests.{_and_, _or_, neg, choose}
-use Rattle.lists.specs.Lists.{any, keep, firstOf, firstFrom, eachFrom}
+use Rattle.lists.specs.Lists.{any, keep, firstFrom, eachFrom}
 use Rattle.masks.specs.Sets.{subset, union, single, member, within}
 use Rattle.machine.specs.System.{System}
 
@@ -47,34 +47,41 @@ unfoldable pub covers : ℕ → ℕ → Blocker → Bool
 covers i X blocker = leb i (blocker .level) and subset X (blocker .mask)
 
 -- "A case is blocked at level i ≥ 1 if it is a subset of a blocker of level i or more; at level 0 if it does not contain I."
-unfoldable pub blocked : System → List Blocker → ℕ → ℕ → Bool
-blocked S table zero X = neg (subset (S .initial) X)
-blocked S table (suc i) X = any (covers (suc i) X) table
+unfoldable pub blocked : ℕ → List Blocker → ℕ → ℕ → Bool
+blocked initial table zero X = neg (subset initial X)
+blocked initial table (suc i) X = any (covers (suc i) X) table
 
--- a final case that is not blocked at N, as the only pending case: "If F is not blocked at N, F becomes pending at N."
-unfoldable pub pendingFinal : Option ℕ → List Pending
-pendingFinal none = []
-pendingFinal (some F) = record { case = F; symbol = 0 } ∷ []
-
-unfoldable pub finalPending : System → List Blocker → ℕ → List Pending
-unfolding pendingFinal
-finalPending S table N = pendingFinal (firstOf (λ F. neg (blocked S table N F)) (S .finals))
-
--- "Open: N grows by 1 and is open. If F is not blocked at N, F becomes pending at N."
-unfoldable pub openStep : System → Configuration → Step
-openStep S c = opens (record {
-  table = c .table;
-  level = suc (c .level);
-  isOpen = true;
-  pending = finalPending S (c .table) (suc (c .level));
+-- "Each of these counts one step": c with one step more, and with this table, N, whether that is open, and these cases pending
+abbrev pub oneMore : Configuration → List Blocker → ℕ → Bool → List Pending → Configuration
+oneMore c table level isOpen pending = record {
+  table = table;
+  level = level;
+  isOpen = isOpen;
+  pending = pending;
   steps = suc (c .steps);
   blocks = c .blocks;
   accepted = c .accepted;
-})
+}
 
--- the symbol's backward set P of X "is neither a subset of X nor blocked at i−1", where below is i−1
+-- "If F is not blocked at N, F becomes pending at N": the first final case that is not blocked, as the only pending case
+unfoldable pub finalPending : ℕ → List ℕ → List Blocker → ℕ → List Pending
+finalPending initial [] table N = []
+finalPending initial (F ∷ finals) table N =
+    let later = finalPending initial finals table N in choose (blocked initial table N F) later (record { case = F; symbol = 0 } ∷ [])
+
+-- "Open: N grows by 1 and is open. If F is not blocked at N, F becomes pending at N."
+unfoldable pub openStep : ℕ → List ℕ → Configuration → Step
+openStep initial finals c =
+    let N = suc (c .level) in
+    opens (oneMore c (c .table) N true (finalPending initial finals (c .table) N))
+
+-- the backward set P of Y "is a subset of Y or blocked at i−1", where below is i−1
+unfoldable pub settled : ℕ → List Blocker → ℕ → ℕ → ℕ → Bool
+settled initial table below Y P = subset P Y or blocked initial table below P
+
+-- the symbol's backward set P of X "is neither a subset of X nor blocked at i−1"
 unfoldable pub qualifies : System → List Blocker → ℕ → ℕ → ℕ → Bool
-qualifies S table below X s = neg (subset (S .backward s X) X or blocked S table below (S .backward s X))
+qualifies S table below X s = neg (settled (S .initial) table below X (S .backward s X))
 
 -- "the symbols that led to the pending cases from the lowest level up": all but the first place's 0
 unfoldable pub wordOf : List Pending → List ℕ
@@ -85,31 +92,16 @@ wordOf (p ∷ q ∷ rest) = p .symbol ∷ wordOf (q ∷ rest)
 -- "Extend. .. If P contains I: answer 1; the word is that symbol, then the symbols that led to the pending cases from the lowest level up.
 -- Otherwise P becomes pending at i−1." The last argument is whether P contains I.
 unfoldable pub extendStep : System → Configuration → Pending → List Pending → ℕ → Bool → Step
-extendStep S c p rest s true = answersNonempty (s ∷ wordOf (p ∷ rest)) (record {
-  table = c .table;
-  level = c .level;
-  isOpen = c .isOpen;
-  pending = [];
-  steps = suc (c .steps);
-  blocks = c .blocks;
-  accepted = c .accepted;
-})
-extendStep S c p rest s false = extends (record {
-  table = c .table;
-  level = c .level;
-  isOpen = c .isOpen;
-  pending = record { case = S .backward s (p .case); symbol = s } ∷ p ∷ rest;
-  steps = suc (c .steps);
-  blocks = c .blocks;
-  accepted = c .accepted;
-})
+extendStep S c p rest s true = answersNonempty (s ∷ wordOf (p ∷ rest)) (oneMore c (c .table) (c .level) (c .isOpen) [])
+extendStep S c p rest s false =
+    extends (oneMore c (c .table) (c .level) (c .isOpen) (record { case = S .backward s (p .case); symbol = s } ∷ p ∷ rest))
 
 -- "A case Y passes if it contains X, does not contain I, has no bit at n or above, and its backward set by each symbol is a subset of Y or
 -- blocked at i−1."
 unfoldable pub passes : System → List Blocker → ℕ → ℕ → ℕ → Bool
 passes S table below X Y =
     subset X Y and neg (subset (S .initial) Y) and within (S .states) Y
-    and eachFrom (λ s. subset (S .backward s Y) Y or blocked S table below (S .backward s Y)) (S .symbols) 0
+    and eachFrom (λ s. settled (S .initial) table below Y (S .backward s Y)) (S .symbols) 0
 
 -- A way to grow: from the table, i−1 and X, the set Y that is to block X at i.
 abbrev pub Growth : Type 0
@@ -147,10 +139,15 @@ chosenFrom S grow table below X (some hint) =
     let grown : Choice = record { mask = grow table below X; hinted = 0 } in
     choose (passes S table below X hint) (record { mask = hint; hinted = 1 }) grown
 
+-- what a step is given: a way to grow, the hints, and the allowance against which the run's steps are tested
+pub record Given : Type 0 where
+  pub grow : Growth
+  pub hints : List ℕ
+  pub allowance : ℕ
+
 -- "If t blocks came before and hint t exists and passes, it is taken. Otherwise" Y is grown.
-unfoldable pub chosen : System → Growth → List ℕ → Configuration → ℕ → ℕ → Choice
-unfolding chosenFrom
-chosen S grow hints c below X = chosenFrom S grow (c .table) below X (hintAt hints (c .blocks))
+unfoldable pub chosen : System → Given → Configuration → ℕ → ℕ → Choice
+chosen S given c below X = chosenFrom S (given .grow) (c .table) below X (hintAt (given .hints) (c .blocks))
 
 -- a blocker leaves for Y: it is of Y's level or lower and a subset of Y
 unfoldable pub leaves : Blocker → Blocker → Bool
@@ -162,20 +159,20 @@ staying Y table = keep (λ blocker. neg (leaves Y blocker)) table
 
 -- "X is no longer pending." Where nothing is left pending, the first final case that is not blocked at N takes its place: F alone has just been
 -- blocked there.
-unfoldable pub pendingAfter : System → List Blocker → ℕ → List Pending → List Pending
-pendingAfter S table N [] = finalPending S table N
-pendingAfter S table N (p ∷ rest) = p ∷ rest
+unfoldable pub pendingAfter : ℕ → List ℕ → List Blocker → ℕ → List Pending → List Pending
+pendingAfter initial finals table N [] = finalPending initial finals table N
+pendingAfter initial finals table N (p ∷ rest) = p ∷ rest
 
 -- "Y enters at the end with level i; X is no longer pending."
-unfoldable pub blockStep : System → Configuration → List Pending → ℕ → Choice → Step
-blockStep S c rest below choice =
+unfoldable pub blockStep : ℕ → List ℕ → Configuration → List Pending → ℕ → Choice → Step
+blockStep initial finals c rest below choice =
     let Y : Blocker = record { mask = choice .mask; level = suc below } in
     let table : List Blocker = staying Y (c .table) ++ Y ∷ [] in
     blocks (record {
       table = table;
       level = c .level;
       isOpen = c .isOpen;
-      pending = pendingAfter S table (c .level) rest;
+      pending = pendingAfter initial finals table (c .level) rest;
       steps = suc (c .steps);
       blocks = suc (c .blocks);
       accepted = c .accepted + choice .hinted;
@@ -183,20 +180,19 @@ blockStep S c rest below choice =
 
 -- "Extend. For the pending case X of lowest level i, the symbols are tried from 0 upward, and the first whose backward set P is neither a subset
 -- of X nor blocked at i−1 is taken." "Block, if no symbol qualifies."
-unfoldable pub workOn : System → Growth → List ℕ → Configuration → Pending → List Pending → ℕ → Option ℕ → Step
-workOn S grow hints c p rest below (some s) = extendStep S c p rest s (subset (S .initial) (S .backward s (p .case)))
-workOn S grow hints c p rest below none = blockStep S c rest below (chosen S grow hints c below (p .case))
+unfoldable pub workOn : System → Given → Configuration → Pending → List Pending → ℕ → Option ℕ → Step
+workOn S given c p rest below (some s) = extendStep S c p rest s (subset (S .initial) (S .backward s (p .case)))
+workOn S given c p rest below none = blockStep (S .initial) (S .finals) c rest below (chosen S given c below (p .case))
 
-unfoldable pub workStep : System → Growth → List ℕ → Configuration → Pending → List Pending → Step
-unfolding workOn
-workStep S grow hints c p rest =
+unfoldable pub workStep : System → Given → Configuration → Pending → List Pending → Step
+workStep S given c p rest =
     let below : ℕ = c .level - suc (length rest) in
-    workOn S grow hints c p rest below (firstFrom (qualifies S (c .table) below (p .case)) (S .symbols) 0)
+    workOn S given c p rest below (firstFrom (qualifies S (c .table) below (p .case)) (S .symbols) 0)
 
 -- "a blocker of level exactly j all of whose backward sets are blocked at j rises to j+1"
 unfoldable pub rises : System → List Blocker → ℕ → Blocker → Bool
 rises S table j blocker =
-    eqb (blocker .level) j and eachFrom (λ s. blocked S table j (S .backward s (blocker .mask))) (S .symbols) 0
+    eqb (blocker .level) j and eachFrom (λ s. blocked (S .initial) table j (S .backward s (blocker .mask))) (S .symbols) 0
 
 unfoldable pub risen : Blocker → Blocker
 risen blocker = record { mask = blocker .mask; level = suc (blocker .level) }
@@ -226,41 +222,22 @@ frame j table = keep (λ blocker. ltb j (blocker .level)) table
 
 -- "N is then no longer open. If some level from 1 to N then holds no blocker, take the lowest such j: answer 0; the frame is the blockers above j."
 unfoldable pub closeWith : Configuration → List Blocker → Option ℕ → Step
-closeWith c table none = closes (record {
-  table = table;
-  level = c .level;
-  isOpen = false;
-  pending = [];
-  steps = suc (c .steps);
-  blocks = c .blocks;
-  accepted = c .accepted;
-})
-closeWith c table (some j) = answersEmpty (record {
-  table = frame j table;
-  level = c .level;
-  isOpen = false;
-  pending = [];
-  steps = suc (c .steps);
-  blocks = c .blocks;
-  accepted = c .accepted;
-})
+closeWith c table none = closes (oneMore c table (c .level) false [])
+closeWith c table (some j) = answersEmpty (oneMore c (frame j table) (c .level) false [])
 
 unfoldable pub closeStep : System → Configuration → Step
-unfolding closeWith
 closeStep S c =
     let table : List Blocker = riseLevels S (c .level) 1 (c .table) in
     closeWith c table (firstFrom (noneAt table) (c .level) 1)
 
 -- "A pending case is worked on first; with none, an open N is closed; else a level is opened."
-unfoldable pub stepOn : System → Growth → List ℕ → Configuration → List Pending → Bool → Step
-unfolding workStep closeStep openStep
-stepOn S grow hints c (p ∷ rest) isOpen = workStep S grow hints c p rest
-stepOn S grow hints c [] true = closeStep S c
-stepOn S grow hints c [] false = openStep S c
+unfoldable pub stepOn : System → Given → Configuration → List Pending → Bool → Step
+stepOn S given c (p ∷ rest) isOpen = workStep S given c p rest
+stepOn S given c [] true = closeStep S c
+stepOn S given c [] false = openStep (S .initial) (S .finals) c
 
-unfoldable pub step : System → Growth → List ℕ → Configuration → Step
-unfolding stepOn
-step S grow hints c = stepOn S grow hints c (c .pending) (c .isOpen)
+unfoldable pub step : System → Given → Configuration → Step
+step S given c = stepOn S given c (c .pending) (c .isOpen)
 
 -- the places that a run is lent: for blockers, and for pending cases
 pub record Rooms : Type 0 where
@@ -278,38 +255,40 @@ pub data Next : Type 0 where
   goesOn : Configuration → Next
   ends : Outcome → Next
 
-unfoldable pub ifRoom : Bool → Configuration → Outcome → Next
-ifRoom true d lack = goesOn d
-ifRoom false d lack = ends lack
+-- the configuration to which a step comes, or in which a run ends
+abbrev pub comesTo : Next → Configuration
+comesTo (goesOn c) = c
+comesTo (ends (nonempty word c)) = c
+comesTo (ends (empty c)) = c
+comesTo (ends (stepsLack c)) = c
+comesTo (ends (blockersLack c)) = c
+comesTo (ends (wordLacks c)) = c
 
 -- "then the room that the step needs (3 or 4)": an open lacks room where "the level equals the word room"; a block that "finds no place" would
 -- leave more blockers than there are places ("Room is judged after the leaving"). A step without room is not made.
 unfoldable pub judge : Rooms → Configuration → Step → Next
-judge rooms c (opens d) = ifRoom (ltb (c .level) (rooms .word)) d (wordLacks c)
+judge rooms c (opens d) = choose (ltb (c .level) (rooms .word)) (goesOn d) (ends (wordLacks c))
 judge rooms c (extends d) = goesOn d
-judge rooms c (blocks d) = ifRoom (leb (length (d .table)) (rooms .blockers)) d (blockersLack c)
+judge rooms c (blocks d) = choose (leb (length (d .table)) (rooms .blockers)) (goesOn d) (ends (blockersLack c))
 judge rooms c (closes d) = goesOn d
 judge rooms c (answersNonempty word d) = ends (nonempty word d)
 judge rooms c (answersEmpty d) = ends (empty d)
 
--- "Before each step the allowance is tested (2), then the room": `left` is what is left of the allowance
-unfoldable pub drive : System → Growth → List ℕ → Rooms → ℕ → Configuration → Outcome
-unfolding step judge
-drive S grow hints rooms zero c = stepsLack c
-drive S grow hints rooms (suc left) c = elim (judge rooms c (step S grow hints c)) [
-  | goesOn d ↦ drive S grow hints rooms left d
-  | ends outcome ↦ outcome
-]
+-- One call that makes one step: "Before each step the allowance is tested (2), then the room that the step needs (3 or 4)." What has ended stays so.
+unfoldable pub advance : System → Rooms → Given → Next → Next
+advance S rooms given (goesOn c) =
+    let made = judge rooms c (step S given c) in choose (ltb (c .steps) (given .allowance)) made (ends (stepsLack c))
+advance S rooms given (ends outcome) = ends outcome
 
--- "if I is a subset of F": one of the final cases contains I
-unfoldable pub atStart : System → Bool
-atStart S = any (subset (S .initial)) (S .finals)
+-- a chain of such calls, each given what is its own
+unfoldable pub chain : System → Rooms → Next → List Given → Next
+chain S rooms n [] = n
+chain S rooms n (given ∷ later) = chain S rooms (advance S rooms given n) later
 
--- "Start: if I is a subset of F, answer 1 with the empty word and 0 steps. Otherwise steps follow."
-unfoldable pub startWith : System → Growth → List ℕ → Rooms → ℕ → Bool → Outcome
-startWith S grow hints rooms allowance true = nonempty [] beginning
-startWith S grow hints rooms allowance false = drive S grow hints rooms allowance beginning
+-- "Start: if I is a subset of F, answer 1 with the empty word and 0 steps. Otherwise steps follow": one of the final cases contains I
+unfoldable pub begin : System → Next
+begin S = choose (any (subset (S .initial)) (S .finals)) (ends (nonempty [] beginning)) (goesOn beginning)
 
-unfoldable pub machine : System → Growth → List ℕ → Rooms → ℕ → Outcome
-unfolding startWith atStart
-machine S grow hints rooms allowance = startWith S grow hints rooms allowance (atStart S)
+-- a run: begin, then calls that are all given the same: as many as its allowance has steps, and one that finds it used up
+unfoldable pub machine : System → Rooms → Given → Next
+machine S rooms given = chain S rooms (begin S) (replicate (suc (given .allowance)) given)

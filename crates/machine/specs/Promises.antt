@@ -2,18 +2,19 @@
 -- `Rattle.machine.proofs.Kept.kept`. Assumes nothing: these are statements.
 use Prim.Native.Nat.{ℕ, suc, _-_, _^_, _≤_, _<_}
 use mathlib.Core.Path.{_≡_}
-use mathlib.Core.List.{List, [], _++_}
-use mathlib.Core.Logic.{_↔_}
+use mathlib.Core.List.{List, [], _∷_, _++_}
+use mathlib.Core.Logic.{_↔_, _⊎_}
 use lib.ListN.{length, replicate}
 use Rattle.lists.specs.Lists.{_∈_, Each}
-use Rattle.automata.specs.Image.{Valid, checkImage, statesOf, symbolsOf}
+use Rattle.automata.specs.Image.{Valid, checkImage, statesOf, symbolsOf, rowCountOf, initialOf, finalOf}
 use Rattle.automata.specs.Automaton.{automatonOf, HoldOne}
 use Rattle.automata.specs.Acceptance.{Accepted}
 use Rattle.automata.specs.WordTest.{wordTest}
-use Rattle.machine.specs.Machine.{Blocker, Configuration, Rooms, Outcome, byStates, machine}
-use Rattle.machine.specs.Meaning.{Closed, IsVerdict, OutOfSteps, OutOfBlockers, OutOfWord}
+use Rattle.automata.specs.Answers.{readImage, imageNumber, headAfter}
+use Rattle.machine.specs.Machine.{Blocker, Pending, Configuration, Rooms, Outcome, ends, begin, blocks, step}
+use Rattle.machine.specs.Meaning.{Closed, WorksIn, EndedBy}
 use Rattle.machine.specs.Lent.{blockersFrom, column, maskOf, levelOf}
-use Rattle.machine.specs.Runs.{Lent, Result, systemOf, roomsOf, ended, resultOf, checkRun, runOf}
+use Rattle.machine.specs.Runs.{Lent, Terms, Result, systemOf, roomsOf, givenOf, endOf, resultOf, checkRun, runOf}
 
 -- a symbol of the word is k or above
 pub record HasUnknown (image word : List ℕ) : Type 0 where
@@ -37,55 +38,61 @@ pub record Refused (lent : Lent) (number : ℕ) (r : Result) : Type 0 where
 -- "nonempty": the symbol table begins with an accepted word, as long as the level says, and has 0 after it; no accepted word has fewer symbols
 pub record WordFound (image : List ℕ) (lent : Lent) (r : Result) : Type 0 where
   pub word : List ℕ
+  pub fits : length word ≤ length (lent .symbols)
   pub stands : r .tables .symbols ≡ word ++ replicate (length (lent .symbols) - length word) 0
   pub accepted : Accepted (automatonOf image) word
   pub long : length word ≡ r .level
   pub shortest : (other : List ℕ) → Accepted (automatonOf image) other → length word ≤ length other
 
--- a run that stopped at c, for the reason that `Lacks` names: its numbers and tables are those of c
-pub record StoppedAt (lent : Lent) (number : ℕ) (Lacks : Configuration → Type 0) (r : Result) : Type 0 where
-  pub at : Configuration
-  pub lacks : Lacks at
-  pub shows : r ≡ ended lent number [] at
-
--- the run has the verdict that any larger rooms and allowance give, after at most `most` steps
-pub record Decides (image : List ℕ) (lent : Lent) (hints : List ℕ) (allowance most : ℕ) (r : Result) : Type 0 where
-  pub outcome : Outcome
-  pub verdict : IsVerdict outcome
-  pub shows : r ≡ resultOf lent outcome
-  pub in-time : r .steps ≤ most
-  pub unbounded : (rooms : Rooms) (more : ℕ) → length (lent .masks) ≤ rooms .blockers → length (lent .cases) ≤ rooms .word → allowance ≤ more
-      → machine (systemOf image) (byStates (systemOf image)) hints rooms more ≡ outcome
-
--- the promises of one run
-pub record RunPromises (image : List ℕ) (lent : Lent) (hints : List ℕ) (allowance : ℕ) (r : Result) : Type 0 where
-  -- "Every malformed input is refused under its number in document 01, all lent tables untouched."
-  pub refuses : (checkRun image lent hints ≡ 0 → ⊥) → Refused lent (checkRun image lent hints) r
-  pub refuses-image : (Valid image → ⊥) → Refused lent (checkImage image) r
-  pub refuses-only : 20 ≤ r .number → checkRun image lent hints ≡ 0 → ⊥
+-- the rules by which a run that was not refused is judged
+pub record Rules (image : List ℕ) (lent : Lent) (r : Result) : Type 0 where
   -- ""Nonempty" only with a word accepted by the definition of Chandra, Kozen and Stockmeyer"; "their words are shortest"
   pub nonempty : r .number ≡ 1 → WordFound image lent r
   -- ""empty" only if no word is accepted, and then with blockers closed under backward steps"
   pub empty : r .number ≡ 0 → (word : List ℕ) → Accepted (automatonOf image) word → ⊥
   pub empty-frame : r .number ≡ 0 → Closed (systemOf image) (heldBy r)
+  -- "Below 20, pending cases are all 0; the symbol table holds .. 0 elsewhere; the blocker room holds the entries in table order, with 0 after them."
+  pub other : r .number ≤ 4
+  pub held-fits : r .blockers ≤ length (lent .masks)
+  pub leaves-cases : r .tables .cases ≡ replicate (length (lent .cases)) 0
+  pub leaves-symbols : (r .number ≡ 1 → ⊥) → r .tables .symbols ≡ replicate (length (lent .symbols)) 0
+  pub leaves-masks : r .tables .masks ≡ column maskOf (heldBy r) ++ replicate (length (lent .masks) - r .blockers) 0
+  pub leaves-levels : r .tables .levels ≡ column levelOf (heldBy r) ++ replicate (length (lent .levels) - r .blockers) 0
+
+-- how a run ended: at its start, or by the step at which 01's machine answers or lacks steps or room
+pub record RunEnded (image : List ℕ) (lent : Lent) (terms : Terms) (r : Result) : Type 0 where
+  pub outcome : Outcome
+  pub shows : r ≡ resultOf lent (ends outcome)
+  pub how : (begin (systemOf image) ≡ ends outcome) ⊎ EndedBy (systemOf image) (roomsOf lent) (givenOf image terms) outcome
+
+-- the same terms with another allowance
+abbrev pub withAllowance : ℕ → Terms → Terms
+withAllowance allowance terms = record { hints = terms .hints; allowance = allowance }
+
+-- "A run's verdict is its number where that is 0 ("empty") or 1 ("nonempty")": the run has one, after at most `most` steps, and any larger rooms and
+-- allowance give the same result
+pub record Decides (image : List ℕ) (lent : Lent) (terms : Terms) (most : ℕ) (r : Result) : Type 0 where
+  pub verdict : r .number ≤ 1
+  pub in-time : r .steps ≤ most
+  pub unbounded : (rooms : Rooms) (more : ℕ) → length (lent .masks) ≤ rooms .blockers → length (lent .cases) ≤ rooms .word
+      → terms .allowance ≤ more → r ≡ resultOf lent (endOf image rooms (withAllowance more terms))
+
+-- the promises of one run
+pub record RunPromises (image : List ℕ) (lent : Lent) (terms : Terms) (r : Result) : Type 0 where
+  -- "Every malformed input is refused under its number in document 01, all lent tables untouched."
+  pub refuses : (checkRun image lent terms ≡ 0 → ⊥) → Refused lent (checkRun image lent terms) r
+  pub refuses-image : (Valid image → ⊥) → Refused lent (checkImage image) r
+  pub refuses-only : 20 ≤ r .number → checkRun image lent terms ≡ 0 → ⊥
+  pub judged : checkRun image lent terms ≡ 0 → Rules image lent r
   -- "Any other run stops at the very step where 01's machine lacks steps or room."
-  pub other : checkRun image lent hints ≡ 0 → r .number ≤ 4
-  pub steps-lack : r .number ≡ 2
-      → StoppedAt lent 2 (OutOfSteps (systemOf image) (byStates (systemOf image)) hints (roomsOf lent) allowance) r
-  pub blockers-lack : r .number ≡ 3
-      → StoppedAt lent 3 (OutOfBlockers (systemOf image) (byStates (systemOf image)) hints (roomsOf lent) allowance) r
-  pub word-lacks : r .number ≡ 4
-      → StoppedAt lent 4 (OutOfWord (systemOf image) (byStates (systemOf image)) hints (roomsOf lent) allowance) r
+  pub ended : checkRun image lent terms ≡ 0 → RunEnded image lent terms r
+  -- no run makes more steps than it is allowed
+  pub in-allowance : r .steps ≤ terms .allowance
   -- "with n ≤ 16, 2^n places and 4^(n+1) steps every run that is not refused reaches the verdict, with the machine's own count of steps, at most
   -- 4^(n+1)"; n ≤ 16 is what lets 2^n places pass check 31
-  pub decides : checkRun image lent hints ≡ 0 → statesOf image ≤ 16 → 2 ^ statesOf image ≤ length (lent .masks)
-      → 2 ^ statesOf image ≤ length (lent .cases) → 4 ^ suc (statesOf image) ≤ allowance
-      → Decides image lent hints allowance (4 ^ suc (statesOf image)) r
-  -- "Below 20, pending cases are all 0; the symbol table holds .. 0 elsewhere; the blocker room holds the entries in table order, with 0 after them."
-  pub leaves-cases : r .number < 20 → r .tables .cases ≡ replicate (length (lent .cases)) 0
-  pub leaves-symbols : r .number < 20 → (r .number ≡ 1 → ⊥) → r .tables .symbols ≡ replicate (length (lent .symbols)) 0
-  pub leaves-masks : r .number < 20 → r .tables .masks ≡ column maskOf (heldBy r) ++ replicate (length (lent .masks) - r .blockers) 0
-  pub leaves-levels : r .number < 20 → r .tables .levels ≡ column levelOf (heldBy r) ++ replicate (length (lent .levels) - r .blockers) 0
+  pub decides : checkRun image lent terms ≡ 0 → statesOf image ≤ 16 → 2 ^ statesOf image ≤ length (lent .masks)
+      → 2 ^ statesOf image ≤ length (lent .cases) → 4 ^ suc (statesOf image) ≤ terms .allowance
+      → Decides image lent terms (4 ^ suc (statesOf image)) r
 
 -- two runs that reached a verdict: the same one, and words of the same length
 pub record Agreed (r s : Result) : Type 0 where
@@ -93,6 +100,13 @@ pub record Agreed (r s : Result) : Type 0 where
   pub words : r .number ≡ 1 → r .level ≡ s .level
 
 pub record Promises : Type 0 where
+  -- "Every malformed input is refused under its number": the image reader, which then leaves what it was lent for the head
+  pub reader-refuses : (image : List ℕ) → (Valid image → ⊥) → imageNumber (readImage image) ≡ checkImage image
+  pub reader-leaves : (image before : List ℕ) → (Valid image → ⊥) → headAfter before (readImage image) ≡ before
+  -- and else reads n, k, m, I and F as the bytes say
+  pub reader-accepts : (image : List ℕ) → Valid image → imageNumber (readImage image) ≡ 0
+  pub reader-reads : (image before : List ℕ) → Valid image
+      → headAfter before (readImage image) ≡ statesOf image ∷ symbolsOf image ∷ rowCountOf image ∷ initialOf image ∷ finalOf image ∷ []
   -- "Every malformed input is refused under its number": the word test under the image's number, and then under 32
   pub word-test-refuses-image : (image word : List ℕ) → (Valid image → ⊥) → wordTest image word ≡ checkImage image
   pub word-test-refuses-symbol : (image word : List ℕ) → (wordTest image word ≡ 32) ↔ (Valid image × HasUnknown image word)
@@ -103,9 +117,11 @@ pub record Promises : Type 0 where
   -- images that hold one automaton give one answer
   pub word-test-same : (image other word : List ℕ) → Valid image → Valid other → HoldOne image other → wordTest image word ≡ wordTest other word
   -- every run keeps its promises, whatever it is lent
-  pub runs : (image : List ℕ) (lent : Lent) (hints : List ℕ) (allowance : ℕ)
-      → RunPromises image lent hints allowance (runOf image lent hints allowance)
+  pub runs : (image : List ℕ) (lent : Lent) (terms : Terms) → RunPromises image lent terms (runOf image lent terms)
   -- "Whatever hints, rooms and allowances, two runs on one valid automaton that reach a verdict agree"
-  pub runs-agree : (image other : List ℕ) (lent lent′ : Lent) (hints hints′ : List ℕ) (allowance allowance′ : ℕ) → HoldOne image other
-      → runOf image lent hints allowance .number ≤ 1 → runOf other lent′ hints′ allowance′ .number ≤ 1
-      → Agreed (runOf image lent hints allowance) (runOf other lent′ hints′ allowance′)
+  pub runs-agree : (image other : List ℕ) (lent lent′ : Lent) (terms terms′ : Terms) → HoldOne image other
+      → runOf image lent terms .number ≤ 1 → runOf other lent′ terms′ .number ≤ 1 → Agreed (runOf image lent terms) (runOf other lent′ terms′)
+  -- "X is no longer pending": a block leaves the cases pending that waited above X, and no other
+  pub block-unpends : (image : List ℕ) (rooms : Rooms) (terms : Terms) (X : Pending) (rest : List Pending) (c d : Configuration) → Valid image
+      → WorksIn (systemOf image) rooms (givenOf image terms) c → c .pending ≡ X ∷ rest → step (systemOf image) (givenOf image terms) c ≡ blocks d
+      → d .pending ≡ rest

@@ -1,6 +1,6 @@
 -- A run on an image, for every input: its checks, its five numbers, and what each lent place then holds. Assumes nothing: these are definitions.
 use Prim.Native.Nat.{ℕ, zero, suc}
-use mathlib.Core.Bool.{Bool, true, false}
+use mathlib.Core.Bool.{Bool}
 use mathlib.Core.List.{List, [], _∷_}
 use lib.Dec.{eqb, ltb}
 use lib.ListN.{length}
@@ -8,9 +8,9 @@ use Rattle.lists.specs.Tests.{_or_, neg}
 use Rattle.automata.specs.Image.{statesOf, symbolsOf, initialOf, finalOf, rowsOf, check, checkImage}
 use Rattle.automata.specs.Automaton.{backward}
 use Rattle.machine.specs.System.{System}
-use Rattle.machine.specs.Machine.{Blocker, Configuration, Rooms, byStates, machine}
-use Rattle.machine.specs.Machine.{Outcome, nonempty, empty, stepsLack, blockersLack, wordLacks}
-use Rattle.machine.specs.Lent.{column, maskOf, levelOf, placed}
+use Rattle.machine.specs.Machine.{Given, Rooms, byStates, Next, goesOn, ends, comesTo, machine}
+use Rattle.machine.specs.Machine.{nonempty, empty, stepsLack, blockersLack, wordLacks}
+use Rattle.machine.specs.Lent.{column, columnBack, maskOf, levelOf, caseOf, symbolOf, placed}
 
 -- the backward system of an image: F is its one final case
 abbrev pub systemOf : List ℕ → System
@@ -29,6 +29,15 @@ pub record Lent : Type 0 where
   pub cases : List ℕ
   pub symbols : List ℕ
 
+-- what a run is given beside the image and the rooms: "hints (read only) and an allowance"
+pub record Terms : Type 0 where
+  pub hints : List ℕ
+  pub allowance : ℕ
+
+-- what the terms give each of the machine's steps on the image
+abbrev pub givenOf : List ℕ → Terms → Given
+givenOf image terms = record { grow = byStates (systemOf image); hints = terms .hints; allowance = terms .allowance }
+
 -- "It returns five numbers: the number, steps made, level, blockers held, hints accepted"; and what the lent tables then hold
 pub record Result : Type 0 where
   pub number : ℕ
@@ -42,31 +51,48 @@ pub record Result : Type 0 where
 unfoldable pub refused : Lent → ℕ → Result
 refused lent number = record { number = number; steps = 0; level = 0; blockers = 0; accepted = 0; tables = lent }
 
--- "Below 20, pending cases are all 0; the symbol table holds the word from its first place on "hit" .. and 0 elsewhere; the blocker room holds the
--- entries in table order, with 0 after them."
-unfoldable pub ended : Lent → ℕ → List ℕ → Configuration → Result
-ended lent number word c = record {
-  number = number;
-  steps = c .steps;
-  level = c .level;
-  blockers = length (c .table);
-  accepted = c .accepted;
-  tables = record {
-    masks = placed (length (lent .masks)) (column maskOf (c .table)) (lent .masks);
-    levels = placed (length (lent .levels)) (column levelOf (c .table)) (lent .levels);
-    cases = placed (length (lent .cases)) [] (lent .cases);
-    symbols = placed (length (lent .symbols)) word (lent .symbols);
-  };
+-- 01's number for each way in which a run ends, and 6 while it works
+unfoldable pub numberOf : Next → ℕ
+numberOf (ends (empty c)) = 0
+numberOf (ends (nonempty word c)) = 1
+numberOf (ends (stepsLack c)) = 2
+numberOf (ends (blockersLack c)) = 3
+numberOf (ends (wordLacks c)) = 4
+numberOf (goesOn c) = 6
+
+-- what the word room holds: the pending cases and their symbols while a run works; then no case, and the word if one was found
+unfoldable pub casesIn : Next → List ℕ
+casesIn (goesOn c) = columnBack caseOf (c .pending)
+casesIn (ends outcome) = []
+
+unfoldable pub symbolsIn : Next → List ℕ
+symbolsIn (goesOn c) = columnBack symbolOf (c .pending)
+symbolsIn (ends (nonempty word c)) = word
+symbolsIn (ends (empty c)) = []
+symbolsIn (ends (stepsLack c)) = []
+symbolsIn (ends (blockersLack c)) = []
+symbolsIn (ends (wordLacks c)) = []
+
+-- The lent tables where the machine has come to n, of which `held` and `waiting` places were in use before. "Below 20, pending cases are all 0; the
+-- symbol table holds the word from its first place on "hit" .. and 0 elsewhere; the blocker room holds the entries in table order, with 0 after them."
+unfoldable pub tablesAfter : ℕ → ℕ → Lent → Next → Lent
+tablesAfter held waiting lent n = record {
+  masks = placed held (column maskOf (comesTo n .table)) (lent .masks);
+  levels = placed held (column levelOf (comesTo n .table)) (lent .levels);
+  cases = placed waiting (casesIn n) (lent .cases);
+  symbols = placed waiting (symbolsIn n) (lent .symbols);
 }
 
--- 01's number and values for each way in which a run ends
-unfoldable pub resultOf : Lent → Outcome → Result
-unfolding ended
-resultOf lent (empty c) = ended lent 0 [] c
-resultOf lent (nonempty word c) = ended lent 1 word c
-resultOf lent (stepsLack c) = ended lent 2 [] c
-resultOf lent (blockersLack c) = ended lent 3 [] c
-resultOf lent (wordLacks c) = ended lent 4 [] c
+-- 01's number and values where a run has come to n: all lent places are written
+unfoldable pub resultOf : Lent → Next → Result
+resultOf lent n = record {
+  number = numberOf n;
+  steps = comesTo n .steps;
+  level = comesTo n .level;
+  blockers = length (comesTo n .table);
+  accepted = comesTo n .accepted;
+  tables = tablesAfter (length (lent .masks)) (length (lent .cases)) lent n;
+}
 
 -- 30: the two tables of one room differ in length
 unfoldable pub oddRooms : Lent → Bool
@@ -78,27 +104,24 @@ unfoldable pub oversize : Lent → List ℕ → Bool
 oversize lent hints = ltb 65536 (length (lent .masks)) or ltb 65536 (length (lent .cases)) or ltb 65536 (length hints)
 
 -- the image's checks, then 30, then 31; 0 where none applies
-unfoldable pub checkRooms : Lent → List ℕ → ℕ → ℕ
-checkRooms lent hints zero = check (oddRooms lent) 30 (check (oversize lent hints) 31 0)
-checkRooms lent hints (suc number) = suc number
+unfoldable pub checkRooms : Lent → Terms → ℕ → ℕ
+checkRooms lent terms zero = check (oddRooms lent) 30 (check (oversize lent (terms .hints)) 31 0)
+checkRooms lent terms (suc number) = suc number
 
-unfoldable pub checkRun : List ℕ → Lent → List ℕ → ℕ
-unfolding checkRooms
-checkRun image lent hints = checkRooms lent hints (checkImage image)
+unfoldable pub checkRun : List ℕ → Lent → Terms → ℕ
+checkRun image lent terms = checkRooms lent terms (checkImage image)
 
--- how the machine of 01 ends on the image, in the lent rooms
+-- the end of the run of 01's machine on the image, in rooms of so many places
 abbrev pub roomsOf : Lent → Rooms
 roomsOf lent = record { blockers = length (lent .masks); word = length (lent .cases) }
 
-unfoldable pub outcomeOf : List ℕ → Lent → List ℕ → ℕ → Outcome
-outcomeOf image lent hints allowance = machine (systemOf image) (byStates (systemOf image)) hints (roomsOf lent) allowance
+unfoldable pub endOf : List ℕ → Rooms → Terms → Next
+endOf image rooms terms = machine (systemOf image) rooms (givenOf image terms)
 
-unfoldable pub runWith : List ℕ → Lent → List ℕ → ℕ → ℕ → Result
-unfolding refused resultOf outcomeOf
-runWith image lent hints allowance zero = resultOf lent (outcomeOf image lent hints allowance)
-runWith image lent hints allowance (suc number) = refused lent (suc number)
+unfoldable pub runWith : List ℕ → Lent → Terms → ℕ → Result
+runWith image lent terms zero = resultOf lent (endOf image (roomsOf lent) terms)
+runWith image lent terms (suc number) = refused lent (suc number)
 
 -- a run: refused under the number of the first check that applies, else what the machine makes of it
-unfoldable pub runOf : List ℕ → Lent → List ℕ → ℕ → Result
-unfolding runWith checkRun
-runOf image lent hints allowance = runWith image lent hints allowance (checkRun image lent hints)
+unfoldable pub runOf : List ℕ → Lent → Terms → Result
+runOf image lent terms = runWith image lent terms (checkRun image lent terms)

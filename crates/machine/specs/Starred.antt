@@ -3,7 +3,7 @@ use Prim.Native.Nat.{ℕ}
 use mathlib.Core.Path.{_≡_}
 use mathlib.Core.List.{List, [], _∷_}
 use Rattle.automata.specs.WordTest.{wordTest}
-use Rattle.machine.specs.Runs.{Lent, Result, runOf}
+use Rattle.machine.specs.Runs.{Lent, Terms, Result, runOf}
 
 -- the bytes of small numbers in front of more bytes: 8 bytes, a pair, a row
 abbrev eight : ℕ → List ℕ → List ℕ
@@ -15,7 +15,7 @@ pair offset size rest = offset ∷ 0 ∷ 0 ∷ 0 ∷ size ∷ 0 ∷ 0 ∷ 0 ∷ 
 abbrev row : ℕ → ℕ → List ℕ → List ℕ
 row state case rest = state ∷ eight case rest
 
--- "A (001, Figure 2.1): n 3, k 2, I 1, F 4; symbol 0: (0, 2), (0, 6); symbol 1: (2, 1). Pairs (36, 18), (54, 9); 63 bytes."
+-- "A ..: n 3, k 2, I 1, F 4; symbol 0: (0, 2), (0, 6); symbol 1: (2, 1). Pairs (36, 18), (54, 9); 63 bytes."
 abbrev A : List ℕ
 A = 3 ∷ 2 ∷ 3 ∷ 0 ∷ eight 1 (eight 4 (pair 36 18 (pair 54 9 (row 0 2 (row 0 6 (row 2 1 []))))))
 
@@ -33,12 +33,16 @@ D = 1 ∷ 1 ∷ 0 ∷ 0 ∷ eight 0 (eight 0 (pair 28 0 []))
 
 -- a run with what it is lent and what it gives, or a word test with its number
 pub data Line : Type 0 where
-  run : (image : List ℕ) (lent : Lent) (hints : List ℕ) (allowance : ℕ) → Result → Line
+  run : (image : List ℕ) (lent : Lent) (terms : Terms) → Result → Line
   test : (image word : List ℕ) → ℕ → Line
 
 -- tables that are lent, with other numbers in them
 abbrev lent : List ℕ → List ℕ → Lent
 lent blockers word = record { masks = blockers; levels = blockers; cases = word; symbols = word }
+
+-- hints and an allowance: 256 where the line names none, 4^(n+1) for n 3
+abbrev terms : List ℕ → ℕ → Terms
+terms hints allowance = record { hints = hints; allowance = allowance }
 
 abbrev three : List ℕ
 three = 9 ∷ 9 ∷ 9 ∷ []
@@ -60,23 +64,23 @@ gives number steps level blockers accepted masks levels cases symbols = record {
 unfoldable pub starred : List Line
 starred =
     -- "A: 0 3 1 1 0, frame 4 at level 2."
-    run A (lent three three) [] 100000 (gives 0 3 1 1 0 (4 ∷ 0 ∷ 0 ∷ []) (2 ∷ 0 ∷ 0 ∷ []) none none)
+    run A (lent three three) (terms [] 256) (gives 0 3 1 1 0 (4 ∷ 0 ∷ 0 ∷ []) (2 ∷ 0 ∷ 0 ∷ []) none none)
     -- "A, allowance 2: 2 2 1 1 0, blocker 4 at level 1."
-    ∷ run A (lent three three) [] 2 (gives 2 2 1 1 0 (4 ∷ 0 ∷ 0 ∷ []) (1 ∷ 0 ∷ 0 ∷ []) none none)
+    ∷ run A (lent three three) (terms [] 2) (gives 2 2 1 1 0 (4 ∷ 0 ∷ 0 ∷ []) (1 ∷ 0 ∷ 0 ∷ []) none none)
     -- "A, blocker room 0: 3 1 1 0 0. With allowance 1 as well: 2 1 1 0 0."
-    ∷ run A (lent [] three) [] 100000 (gives 3 1 1 0 0 [] [] none none)
-    ∷ run A (lent [] three) [] 1 (gives 2 1 1 0 0 [] [] none none)
+    ∷ run A (lent [] three) (terms [] 256) (gives 3 1 1 0 0 [] [] none none)
+    ∷ run A (lent [] three) (terms [] 1) (gives 2 1 1 0 0 [] [] none none)
     -- "A, word room 0: 4 0 0 0 0."
-    ∷ run A (lent three []) [] 100000 (gives 4 0 0 0 0 none none [] [])
+    ∷ run A (lent three []) (terms [] 256) (gives 4 0 0 0 0 none none [] [])
     -- "B: 1 2 1 0 0, word 0."
-    ∷ run B (lent three three) [] 100000 (gives 1 2 1 0 0 none none none none)
+    ∷ run B (lent three three) (terms [] 256) (gives 1 2 1 0 0 none none none none)
     -- "C: 1 6 2 1 0, word 0 1, blocker 2 at level 1."
-    ∷ run C (lent three three) [] 100000 (gives 1 6 2 1 0 (2 ∷ 0 ∷ 0 ∷ []) (1 ∷ 0 ∷ 0 ∷ []) none (0 ∷ 1 ∷ 0 ∷ []))
+    ∷ run C (lent three three) (terms [] 256) (gives 1 6 2 1 0 (2 ∷ 0 ∷ 0 ∷ []) (1 ∷ 0 ∷ 0 ∷ []) none (0 ∷ 1 ∷ 0 ∷ []))
     -- "C, hint 6: as without, hint not accepted. Hint 4: 1 6 2 1 1, blocker 4."
-    ∷ run C (lent three three) (6 ∷ []) 100000 (gives 1 6 2 1 0 (2 ∷ 0 ∷ 0 ∷ []) (1 ∷ 0 ∷ 0 ∷ []) none (0 ∷ 1 ∷ 0 ∷ []))
-    ∷ run C (lent three three) (4 ∷ []) 100000 (gives 1 6 2 1 1 (4 ∷ 0 ∷ 0 ∷ []) (1 ∷ 0 ∷ 0 ∷ []) none (0 ∷ 1 ∷ 0 ∷ []))
+    ∷ run C (lent three three) (terms (6 ∷ []) 256) (gives 1 6 2 1 0 (2 ∷ 0 ∷ 0 ∷ []) (1 ∷ 0 ∷ 0 ∷ []) none (0 ∷ 1 ∷ 0 ∷ []))
+    ∷ run C (lent three three) (terms (4 ∷ []) 256) (gives 1 6 2 1 1 (4 ∷ 0 ∷ 0 ∷ []) (1 ∷ 0 ∷ 0 ∷ []) none (0 ∷ 1 ∷ 0 ∷ []))
     -- "D, allowance 0: 1 0 0 0 0."
-    ∷ run D (lent three three) [] 0 (gives 1 0 0 0 0 none none none none)
+    ∷ run D (lent three three) (terms [] 0) (gives 1 0 0 0 0 none none none none)
     -- "Word test on C: 0 1 yes; 1 0 no; the empty word no; symbol 2 gives 32."
     ∷ test C (0 ∷ 1 ∷ []) 1
     ∷ test C (1 ∷ 0 ∷ []) 0
@@ -86,7 +90,7 @@ starred =
 
 -- the line says what the definitions give
 unfoldable pub Right : Line → Type 0
-Right (run image tables hints allowance result) = runOf image tables hints allowance ≡ result
+Right (run image tables given result) = runOf image tables given ≡ result
 Right (test image word number) = wordTest image word ≡ number
 
 -- every line does

@@ -142,7 +142,8 @@ pub shifted-one : (width q : ℕ) → q < width → (1 * 2 ^ q) % 2 ^ width ≡ 
 unfolding single
 shifted-one width q h = ap (λ (x : ℕ). x % 2 ^ width) (one-mul (2 ^ q)) ∙ mod-eq-of-lt (pow-lt h)
 
-pub shifted-test : (width : ℕ) (test : Bool) (q set : ℕ) → q < width → bitOr set ((boolByte test * 2 ^ q) % 2 ^ width) ≡ choose test (union set (single q)) set
+pub shifted-test : (width : ℕ) (test : Bool) (q set : ℕ) → q < width
+    → bitOr set ((boolByte test * 2 ^ q) % 2 ^ width) ≡ choose test (union set (single q)) set
 unfolding union choose
 shifted-test width true q set h = ap (bitOr set) (shifted-one width q h)
 shifted-test width false q set h = ap (λ (x : ℕ). bitOr set (x % 2 ^ width)) (zero-mul (2 ^ q)) ∙ ap (bitOr set) (zero-mod (2 ^ width)) ∙ or-zero-r set

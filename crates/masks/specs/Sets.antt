@@ -1,11 +1,10 @@
 -- Sets of states as numbers: 01's "A case is a set of states, written as a mask: bit q stands for state q".
--- Each test that computes stands beside the law that says what it means of the states. Nothing here has a width: the laws hold for every n.
+-- Tests that compute; what each means of the states is a law of proofs/Laws.antt. Nothing here has a width: the laws hold for every n.
 -- Assumes nothing.
-use Prim.Native.Nat.{ℕ, _-_, _/_, _%_, _^_, _<_}
+use Prim.Native.Nat.{ℕ, _-_, _/_, _%_, _^_}
 use mathlib.Core.Path.{_≡_}
 use mathlib.Core.Bool.{Bool}
-use mathlib.Core.Logic.{_⊎_, _↔_}
-use lib.Dec.{T, eqb, ltb}
+use lib.Dec.{eqb, ltb}
 use lib.Bits.{bitAnd, bitOr}
 
 -- binary digit q of a number

@@ -40,7 +40,7 @@ pub fn insert_if(test: bool, q: State, set: u64) -> u64
 }
 
 // The set of the first n states; more than 64 do not fit a mask, so n above 64 gives all 64.
-pub fn full(n: u8) -> u64
+fn full(n: u8) -> u64
     ensures { λ r. ⌜ r ≡ fullSet (min n 64) ⌝ }
 {
     if n == 0 {

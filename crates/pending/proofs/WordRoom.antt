@@ -58,10 +58,11 @@ one-less table count h p =
     let next : suc (count - 1) ≡ count = omega arith in
     set-split table (count - 1) 0 (omega arith) ∙ rw (next, new, free, most) (sym (append-snoc (take (count - 1) table) 0 (drop count table)))
 
--- the tables after a push, after a pop, and after both are cleared
+-- the tables after a push, and after a pop
 module _ {cases symbols : List ℕ} {count : ℕ} where
   pub pushed : (case symbol : ℕ) → Holds (count + 1) cases symbols
-      → Placed count (record { case = case; symbol = symbol } ∷ pendingFirst cases symbols count) cases symbols (set cases count case) (set symbols count symbol)
+      → Placed count (record { case = case; symbol = symbol } ∷ pendingFirst cases symbols count) cases symbols
+      (set cases count case) (set symbols count symbol)
   unfolding columnBack
   pushed case symbol room =
       record {
@@ -77,10 +78,6 @@ module _ {cases symbols : List ℕ} {count : ℕ} where
         new-symbols = rw (symbols-front cases symbols (count - 1) (omega (arith, room .in-symbols))) (one-less symbols count (room .in-symbols) some);
       }
 
-  pub emptied : {cases′ symbols′ : List ℕ} → cases′ ≡ placed count [] cases → symbols′ ≡ placed count [] symbols → Placed count [] cases symbols cases′ symbols′
-  unfolding columnBack
-  emptied c s = record { new-cases = c; new-symbols = s }
-
 -- no entry in place of the first `count`: 0 in each of their places
 none-placed : (count : ℕ) (before : List ℕ) → placed count [] before ≡ replicate count 0 ++ drop count before
 unfolding placed
@@ -92,7 +89,14 @@ none-placed count before =
 -- and in one place more
 none-next : (at : ℕ) (before : List ℕ) → at < length before → set (placed at [] before) at 0 ≡ placed (at + 1) [] before
 none-next at before h =
-    rw (none-placed at before, none-placed (at + 1) before, ← replicate-append-replicate {A = ℕ} at 1 0, append-snoc (replicate at 0) 0 (drop (at + 1) before), add-one, drop-cons before at 0 h)
+    rw (
+      none-placed at before,
+      none-placed (at + 1) before,
+      ← replicate-append-replicate {A = ℕ} at 1 0,
+      append-snoc (replicate at 0) 0 (drop (at + 1) before),
+      add-one,
+      drop-cons before at 0 h,
+    )
     (set-at (replicate at 0) (getD before at 0) (drop (suc at) before) 0 at (length-replicate at 0))
 
 -- the walk over the first `count` places, before the one at `at`: 0 in those passed, and all else as it was
@@ -118,6 +122,22 @@ module _ {count at : ℕ} {before now : List ℕ} (walk : Clearing count before 
 
   pub clearing-ends : count ≤ at → now ≡ placed count [] before
   clearing-ends l = let e : at ≡ count = omega (arith, walk .bound) in walk .cleared ∙ ap (λ (n : ℕ). placed n [] before) e
+
+-- both tables
+pub record ClearingBoth (count : ℕ) (cases symbols cases′ symbols′ : List ℕ) (at : ℕ) : Type 0 where
+  pub of-cases : Clearing count cases cases′ at
+  pub of-symbols : Clearing count symbols symbols′ at
+
+pub both-start : {count : ℕ} {cases symbols : List ℕ} → Holds count cases symbols → ClearingBoth count cases symbols cases symbols 0
+both-start room = record { of-cases = clearing-starts (room .in-cases); of-symbols = clearing-starts (room .in-symbols) }
+
+module _ {count at : ℕ} {cases symbols cases′ symbols′ : List ℕ} (walk : ClearingBoth count cases symbols cases′ symbols′ at) where
+  pub both-next : at < count → ClearingBoth count cases symbols (set cases′ at 0) (set symbols′ at 0) (at + 1)
+  both-next l = record { of-cases = clearing-next (walk .of-cases) l; of-symbols = clearing-next (walk .of-symbols) l }
+
+  pub both-end : count ≤ at → Placed count [] cases symbols cases′ symbols′
+  unfolding columnBack
+  both-end l = record { new-cases = clearing-ends (walk .of-cases) l; new-symbols = clearing-ends (walk .of-symbols) l }
 
 -- a list of two entries or more, from its first to its last
 record Ends (list : List ℕ) : Type 0 where
@@ -156,12 +176,15 @@ module _ (front inner back : List ℕ) (first last low high : ℕ) (l : length f
   first-read = rw (from-first front inner back first last) (getD-at front first (inner ++ last ∷ back) 0 low l)
 
   last-read : getD (front ++ (first ∷ inner ++ last ∷ []) ++ back) high 0 ≡ last
-  last-read = rw (from-first front inner back first last, from-last front inner back first last) (getD-at (front ++ first ∷ inner) last back 0 high (behind-inner first))
+  last-read =
+      rw (from-first front inner back first last, from-last front inner back first last)
+      (getD-at (front ++ first ∷ inner) last back 0 high (behind-inner first))
 
   ends-written : set (set (front ++ (first ∷ inner ++ last ∷ []) ++ back) low last) high first ≡ front ++ last ∷ [] ++ inner ++ first ∷ back
   ends-written =
       rw (from-first front inner back first last, set-at front first (inner ++ last ∷ back) last low l, from-last front inner back last last)
-      (set-at (front ++ last ∷ inner) last back first high (behind-inner last) ∙ ap (λ (rest : List ℕ). rest ++ first ∷ back) (sym (append-snoc front last inner)))
+      (set-at (front ++ last ∷ inner) last back first high (behind-inner last)
+      ∙ ap (λ (rest : List ℕ). rest ++ first ∷ back) (sym (append-snoc front last inner)))
 
   ends-swapped : (now : List ℕ) → now ≡ front ++ (first ∷ inner ++ last ∷ []) ++ back
       → set (set now low (getD now high 0)) high (getD now low 0) ≡ front ++ last ∷ [] ++ inner ++ first ∷ back

@@ -27,6 +27,19 @@ pub fn pop(cases: &mut [u64], symbols: &mut [u8], count: usize)
     symbols[count - 1] = 0;
 }
 
+// Nothing is pending any more.
+pub fn clear(cases: &mut [u64], symbols: &mut [u8], count: usize)
+    requires { ⌜ Holds count (now cases) (now symbols) ⌝ }
+    ensures { λ _. ⌜ Placed count [] (now (cases .entry)) (now (symbols .entry)) (now (cases .exit)) (now (symbols .exit)) ⌝ }
+{
+    let mut at: usize = 0;
+    while at < count {
+        cases[at] = 0;
+        symbols[at] = 0;
+        at += 1;
+    }
+}
+
 // 0 in the first `count` places of the cases.
 fn clear_cases(cases: &mut [u64], count: usize)
     requires { ⌜ count ≤ length (now cases) ⌝ }
@@ -37,27 +50,6 @@ fn clear_cases(cases: &mut [u64], count: usize)
         cases[at] = 0;
         at += 1;
     }
-}
-
-// 0 in the first `count` places of the symbols.
-fn clear_symbols(symbols: &mut [u8], count: usize)
-    requires { ⌜ count ≤ length (now symbols) ⌝ }
-    ensures { λ _. ⌜ now (symbols .exit) ≡ placed count [] (now (symbols .entry)) ⌝ }
-{
-    let mut at: usize = 0;
-    while at < count {
-        symbols[at] = 0;
-        at += 1;
-    }
-}
-
-// Nothing is pending any more.
-pub fn clear(cases: &mut [u64], symbols: &mut [u8], count: usize)
-    requires { ⌜ Holds count (now cases) (now symbols) ⌝ }
-    ensures { λ _. ⌜ Placed count [] (now (cases .entry)) (now (symbols .entry)) (now (cases .exit)) (now (symbols .exit)) ⌝ }
-{
-    clear_cases(cases, count);
-    clear_symbols(symbols, count);
 }
 
 // The places from `from` up to `to` in the other direction.

@@ -1,10 +1,11 @@
 use borrow.Author.Needs.{needs}
 use Prim.Native.Nat.{_-_}
-use Rattle.blockers.proofs.Closing.{ClearingBoth, clear-starts, clear-masks-long, clear-levels-long, clear-goes, clear-ends}
+use Rattle.blockers.proofs.Closing.{ClearingBoth, clear-starts, clear-goes, clear-ends}
 use Rattle.blockers.proofs.clear.Statement.{statement}
 use Rattle.blockers.proofs.clear.Tie as tie
 use Rattle.blockers.proofs.clear.Reads as reads
 use Rattle.blockers.proofs.clear.Lts as lts
+use Rattle.blockers.proofs.put.Reads as put-reads
 
 abbrev Inv-loop : tie.InvT-loop
 Inv-loop masks₀ levels₀ from to i₀ masks levels i = ClearingBoth from to i masks₀ levels₀ masks levels
@@ -15,17 +16,8 @@ abbrev μ-loop : tie.MeasureT-loop
 loop-holds : tie.Need-loop-holds Inv-loop μ-loop
 loop-holds c = search (clear-starts, needs)
 
-mul-masks : tie.Need-mul-masks Inv-loop μ-loop
-mul-masks c = search needs
-
-slice-write-masks : tie.Need-slice-write-masks Inv-loop μ-loop
-slice-write-masks c = search needs
-
-mul-levels : tie.Need-mul-levels Inv-loop μ-loop
-mul-levels c = search needs
-
-slice-write-levels : tie.Need-slice-write-levels Inv-loop μ-loop
-slice-write-levels c = search needs
+put-requires : tie.Need-put-requires Inv-loop μ-loop
+put-requires c κs = search needs
 
 add-i : tie.Need-add-i Inv-loop μ-loop
 add-i c = search needs
@@ -37,10 +29,10 @@ loop-again : tie.Need-loop-again Inv-loop μ-loop
 loop-again c = search (clear-goes, needs)
 
 same-length : tie.Need-same-length Inv-loop μ-loop
-same-length c = search (clear-masks-long, needs)
+same-length c = search needs
 
 same-length-2 : tie.Need-same-length-2 Inv-loop μ-loop
-same-length-2 c = search (clear-levels-long, needs)
+same-length-2 c = search needs
 
 returns : tie.Need-returns Inv-loop μ-loop
 returns c = search (clear-ends, needs)
@@ -52,10 +44,7 @@ clear-spec =
     Inv-loop
     μ-loop
     loop-holds
-    mul-masks
-    slice-write-masks
-    mul-levels
-    slice-write-levels
+    put-requires
     add-i
     loop-less
     loop-again

@@ -5,14 +5,18 @@ use Rattle.blockers.proofs.covered.Statement.{statement}
 use Rattle.blockers.proofs.covered.Tie as tie
 use Rattle.blockers.proofs.covered.Reads as reads
 use Rattle.blockers.proofs.covered.Lts as lts
+use Rattle.blockers.proofs.count_in.Reads as count-in-reads
 use Rattle.blockers.proofs.covered_from.Reads as covered-from-reads
 use Rattle.blockers.proofs.four_cover.Reads as four-cover-reads
 
 abbrev Inv-loop : tie.InvT-loop
-Inv-loop masks levels held level case i₀ i = FoursSearched masks levels held (level .0) case i
+Inv-loop masks levels level case held i₀ i = FoursSearched masks levels held (level .0) case i
 
 abbrev μ-loop : tie.MeasureT-loop
-μ-loop masks levels held level case i₀ i = held - i
+μ-loop masks levels level case held i₀ i = held - i
+
+count-in-requires : tie.Need-count-in-requires Inv-loop μ-loop
+count-in-requires c κs = search needs
 
 loop-holds : tie.Need-loop-holds Inv-loop μ-loop
 loop-holds c = search (fours-start, needs)
@@ -47,6 +51,7 @@ covered-spec =
     (tie.spec
     Inv-loop
     μ-loop
+    count-in-requires
     loop-holds
     sub-loop
     four-cover-requires

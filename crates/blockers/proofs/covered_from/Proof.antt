@@ -5,7 +5,7 @@ use Rattle.blockers.proofs.covered_from.Statement.{statement}
 use Rattle.blockers.proofs.covered_from.Tie as tie
 use Rattle.blockers.proofs.covered_from.Reads as reads
 use Rattle.blockers.proofs.covered_from.Lts as lts
-use Rattle.blockers.proofs.covers.Reads as covers-reads
+use Rattle.blockers.proofs.covers_at.Reads as covers-at-reads
 
 abbrev Inv-loop : tie.InvT-loop
 Inv-loop masks levels held from level case i₀ i = CoverSearched masks levels held from (level .0) case i
@@ -16,20 +16,8 @@ abbrev μ-loop : tie.MeasureT-loop
 loop-holds : tie.Need-loop-holds Inv-loop μ-loop
 loop-holds c = search (cover-starts, needs)
 
-mul-covers : tie.Need-mul-covers Inv-loop μ-loop
-mul-covers c = search needs
-
-shared-slice-read-covers : tie.Need-shared-slice-read-covers Inv-loop μ-loop
-shared-slice-read-covers c = search needs
-
-mul-t13 : tie.Need-mul-t13 Inv-loop μ-loop
-mul-t13 c = search needs
-
-shared-slice-read-t15 : tie.Need-shared-slice-read-t15 Inv-loop μ-loop
-shared-slice-read-t15 c = search needs
-
-covers-requires : tie.Need-covers-requires Inv-loop μ-loop
-covers-requires c κs = search needs
+covers-at-requires : tie.Need-covers-at-requires Inv-loop μ-loop
+covers-at-requires c κs = search needs
 
 returns : tie.Need-returns Inv-loop μ-loop
 returns c = search (cover-here, needs)
@@ -53,11 +41,7 @@ covered-from-spec =
     Inv-loop
     μ-loop
     loop-holds
-    mul-covers
-    shared-slice-read-covers
-    mul-t13
-    shared-slice-read-t15
-    covers-requires
+    covers-at-requires
     returns
     add-i
     loop-less

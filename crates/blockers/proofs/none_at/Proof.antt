@@ -1,28 +1,34 @@
-use borrow.Author.Needs.{needs}
+use Rattle.blockers.proofs.Walks.{Looked, look-starts, look-finds, look-goes, look-ends}
 use Prim.Native.Nat.{_-_}
-use Rattle.blockers.proofs.Walks.{LevelSearched, level-starts, level-here, level-goes, level-nowhere}
+use lib.ListN.{length}
+use lib.Dec.{eqb}
+use borrow.Author.Needs.{needs}
 use Rattle.blockers.proofs.none_at.Statement.{statement}
 use Rattle.blockers.proofs.none_at.Tie as tie
 use Rattle.blockers.proofs.none_at.Reads as reads
 use Rattle.blockers.proofs.none_at.Lts as lts
+use Rattle.blockers.proofs.Level.equals.Reads as equals-reads
 
 abbrev Inv-loop : tie.InvT-loop
-Inv-loop masks levels held level i₀ i = LevelSearched masks levels held (level .0) i
+Inv-loop levels level i₀ i = Looked (λ other. eqb other (level .0)) levels i
 
 abbrev μ-loop : tie.MeasureT-loop
-μ-loop masks levels held level i₀ i = held - i
+μ-loop levels level i₀ i = length levels - i
 
 loop-holds : tie.Need-loop-holds Inv-loop μ-loop
-loop-holds c = search (level-starts, needs)
+loop-holds c = search (look-starts, needs)
 
-mul-if1 : tie.Need-mul-if1 Inv-loop μ-loop
-mul-if1 c = search needs
+mul-t4 : tie.Need-mul-t4 Inv-loop μ-loop
+mul-t4 c = search needs
 
-shared-slice-read-if1 : tie.Need-shared-slice-read-if1 Inv-loop μ-loop
-shared-slice-read-if1 c = search needs
+shared-slice-read-t8 : tie.Need-shared-slice-read-t8 Inv-loop μ-loop
+shared-slice-read-t8 c = search needs
+
+equals-requires : tie.Need-equals-requires Inv-loop μ-loop
+equals-requires c κs = search needs
 
 returns : tie.Need-returns Inv-loop μ-loop
-returns c = search (level-here, needs)
+returns c = search (look-finds, needs)
 
 add-i : tie.Need-add-i Inv-loop μ-loop
 add-i c = search needs
@@ -31,10 +37,10 @@ loop-less : tie.Need-loop-less Inv-loop μ-loop
 loop-less c = search needs
 
 loop-again : tie.Need-loop-again Inv-loop μ-loop
-loop-again c = search (level-goes, needs)
+loop-again c = search (look-goes, needs)
 
 returns-2 : tie.Need-returns-2 Inv-loop μ-loop
-returns-2 c = search (level-nowhere, needs)
+returns-2 c = search (look-ends, needs)
 
 pub none-at-spec : {M : Type 1} → statement M
 none-at-spec =
@@ -43,8 +49,9 @@ none-at-spec =
     Inv-loop
     μ-loop
     loop-holds
-    mul-if1
-    shared-slice-read-if1
+    mul-t4
+    shared-slice-read-t8
+    equals-requires
     returns
     add-i
     loop-less

@@ -1,5 +1,6 @@
 use borrow.Author.Needs.{needs}
 use Prim.Native.Nat.{_-_}
+use lib.ListN.{length}
 use Rattle.choices.proofs.Symbols.{SymbolsTried, tried-none, symbol-known, tried-all, try-inside, try-short, find-bottom, try-covered, find-open}
 use Rattle.choices.proofs.Symbols.{BlockersTried, walk-starts, walk-goes}
 use Rattle.choices.proofs.first_symbol.Statement.{statement}
@@ -7,20 +8,21 @@ use Rattle.choices.proofs.first_symbol.Tie as tie
 use Rattle.choices.proofs.first_symbol.Reads as reads
 use Rattle.choices.proofs.first_symbol.Lts as lts
 use Rattle.automata.proofs.backward.backward.Reads as backward-reads
+use Rattle.blockers.proofs.Level.equals.Reads as equals-reads
 use Rattle.blockers.proofs.covers.Reads as covers-reads
 use Rattle.masks.proofs.subset.Reads as subset-reads
 
 abbrev Inv-loop : tie.InvT-loop
-Inv-loop image head masks levels held below x s₀ p i₀ s-end s i = BlockersTried masks levels held (below .0) p s₀ s i
+Inv-loop image head masks levels below x s₀ symbol p i₀ s-end s i = BlockersTried masks levels (below .0) p (symbol .0) s i
 
 abbrev μ-loop : tie.MeasureT-loop
-μ-loop image head masks levels held below x s₀ p i₀ s-end s i = held - i
+μ-loop image head masks levels below x s₀ symbol p i₀ s-end s i = length masks - i
 
 abbrev Inv-symbols : tie.InvT-symbols
-Inv-symbols image head masks levels held below x s₀ s-end s = SymbolsTried image masks levels held (below .0) x s-end s
+Inv-symbols image head masks levels below x s₀ s-end s = SymbolsTried image masks levels (below .0) x s-end s
 
 abbrev μ-symbols : tie.MeasureT-symbols
-μ-symbols image head masks levels held below x s₀ s-end s = s-end - s
+μ-symbols image head masks levels below x s₀ s-end s = s-end - s
 
 symbols-holds : tie.Need-symbols-holds Inv-loop μ-loop Inv-symbols μ-symbols
 symbols-holds c = search (tried-none, needs)
@@ -39,6 +41,9 @@ symbols-less c = search needs
 
 symbols-again : tie.Need-symbols-again Inv-loop μ-loop Inv-symbols μ-symbols
 symbols-again c = search (try-inside, needs)
+
+equals-requires : tie.Need-equals-requires Inv-loop μ-loop Inv-symbols μ-symbols
+equals-requires c κs = search needs
 
 subset-requires-2 : tie.Need-subset-requires-2 Inv-loop μ-loop Inv-symbols μ-symbols
 subset-requires-2 c κs = search needs
@@ -111,6 +116,7 @@ first-symbol-spec =
     add-s
     symbols-less
     symbols-again
+    equals-requires
     subset-requires-2
     returns
     add-s-2

@@ -1,8 +1,7 @@
 use borrow.Author.Needs.{needs}
 use Prim.Native.Nat.{_-_}
-use Rattle.machine.specs.Runs.{systemOf}
-use Rattle.blockers.specs.Room.{tableOf}
-use Rattle.choices.specs.Found.{settled}
+use Rattle.machine.specs.Machine.{settled}
+use Rattle.machine.specs.Lent.{blockersIn}
 use Rattle.choices.proofs.Symbols.{EachTried, each-starts, each-known, each-goes}
 use Rattle.choices.proofs.Passing.{pass-lacks, pass-initial, pass-beyond, pass-unsettled, pass-settled}
 use Rattle.choices.proofs.passes.Statement.{statement}
@@ -15,10 +14,11 @@ use Rattle.masks.proofs.subset.Reads as subset-reads
 use Rattle.masks.proofs.within.Reads as within-reads
 
 abbrev Inv-loop : tie.InvT-loop
-Inv-loop image head masks levels held below x y s₀ s = EachTried image (settled (systemOf image) (tableOf held masks levels) (below .0) y) y (head .symbols) s
+Inv-loop image head masks levels below x y symbol₀ symbol =
+    EachTried image (settled (head .initial) (blockersIn masks levels) (below .0) y) y (head .symbols) (symbol .0)
 
 abbrev μ-loop : tie.MeasureT-loop
-μ-loop image head masks levels held below x y s₀ s = head .symbols - s
+μ-loop image head masks levels below x y symbol₀ symbol = head .symbols - symbol .0
 
 subset-requires : tie.Need-subset-requires Inv-loop μ-loop
 subset-requires c κs = search needs
@@ -50,8 +50,8 @@ settled-requires c κs = search needs
 returns-4 : tie.Need-returns-4 Inv-loop μ-loop
 returns-4 c = search (pass-unsettled, needs)
 
-add-s : tie.Need-add-s Inv-loop μ-loop
-add-s c = search needs
+add-t15 : tie.Need-add-t15 Inv-loop μ-loop
+add-t15 c = search needs
 
 loop-less : tie.Need-loop-less Inv-loop μ-loop
 loop-less c = search needs
@@ -78,7 +78,7 @@ passes-spec =
     backward-requires
     settled-requires
     returns-4
-    add-s
+    add-t15
     loop-less
     loop-again
     returns-5)

@@ -1,8 +1,7 @@
 use borrow.Author.Needs.{needs}
 use Prim.Native.Nat.{_-_}
 use Rattle.machine.specs.Machine.{blocked}
-use Rattle.machine.specs.Runs.{systemOf}
-use Rattle.blockers.specs.Room.{tableOf}
+use Rattle.machine.specs.Lent.{blockersIn}
 use Rattle.choices.proofs.Symbols.{EachTried, each-starts, each-known, each-goes}
 use Rattle.choices.proofs.Passing.{rise-other, rise-unblocked, rise-blocked}
 use Rattle.choices.proofs.rises.Statement.{statement}
@@ -10,19 +9,24 @@ use Rattle.choices.proofs.rises.Tie as tie
 use Rattle.choices.proofs.rises.Reads as reads
 use Rattle.choices.proofs.rises.Lts as lts
 use Rattle.automata.proofs.backward.backward.Reads as backward-reads
+use Rattle.blockers.proofs.Level.equals.Reads as equals-reads
 use Rattle.choices.proofs.blocked.Reads as blocked-reads
 
 abbrev Inv-loop : tie.InvT-loop
-Inv-loop image head masks levels held level place mask s₀ s = EachTried image (blocked (systemOf image) (tableOf held masks levels) (level .0)) mask (head .symbols) s
+Inv-loop image head masks levels level place mask symbol₀ symbol =
+    EachTried image (blocked (head .initial) (blockersIn masks levels) (level .0)) mask (head .symbols) (symbol .0)
 
 abbrev μ-loop : tie.MeasureT-loop
-μ-loop image head masks levels held level place mask s₀ s = head .symbols - s
+μ-loop image head masks levels level place mask symbol₀ symbol = head .symbols - symbol .0
 
-mul-if1 : tie.Need-mul-if1 Inv-loop μ-loop
-mul-if1 c = search needs
+mul-t11 : tie.Need-mul-t11 Inv-loop μ-loop
+mul-t11 c = search needs
 
-shared-slice-read-if1 : tie.Need-shared-slice-read-if1 Inv-loop μ-loop
-shared-slice-read-if1 c = search needs
+shared-slice-read-t13 : tie.Need-shared-slice-read-t13 Inv-loop μ-loop
+shared-slice-read-t13 c = search needs
+
+equals-requires : tie.Need-equals-requires Inv-loop μ-loop
+equals-requires c κs = search needs
 
 returns : tie.Need-returns Inv-loop μ-loop
 returns c = search (rise-other, needs)
@@ -45,8 +49,8 @@ blocked-requires c κs = search needs
 returns-2 : tie.Need-returns-2 Inv-loop μ-loop
 returns-2 c = search (rise-unblocked, needs)
 
-add-s : tie.Need-add-s Inv-loop μ-loop
-add-s c = search needs
+add-t20 : tie.Need-add-t20 Inv-loop μ-loop
+add-t20 c = search needs
 
 loop-less : tie.Need-loop-less Inv-loop μ-loop
 loop-less c = search needs
@@ -63,8 +67,9 @@ rises-spec =
     (tie.spec
     Inv-loop
     μ-loop
-    mul-if1
-    shared-slice-read-if1
+    mul-t11
+    shared-slice-read-t13
+    equals-requires
     returns
     mul-mask
     shared-slice-read-mask
@@ -72,7 +77,7 @@ rises-spec =
     backward-requires
     blocked-requires
     returns-2
-    add-s
+    add-t20
     loop-less
     loop-again
     returns-3)

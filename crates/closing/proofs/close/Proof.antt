@@ -1,3 +1,4 @@
+use Rattle.closing.proofs.Composing.{becomes-part}
 use Rattle.closing.proofs.Levels.{closes-full, closes-empty}
 use borrow.Author.Needs.{needs}
 use Rattle.closing.proofs.close.Statement.{statement}
@@ -10,6 +11,12 @@ use Rattle.closing.proofs.rise_levels.Reads as rise-levels-reads
 
 rise-levels-requires : tie.Need-rise-levels-requires
 rise-levels-requires c κs = search needs
+
+slice-reshare-prefix-lowest-none : tie.Need-slice-reshare-prefix-lowest-none
+slice-reshare-prefix-lowest-none c = search needs
+
+slice-aggregate-lowest-none : tie.Need-slice-aggregate-lowest-none
+slice-aggregate-lowest-none c = search (becomes-part, needs)
 
 lowest-none-requires : tie.Need-lowest-none-requires
 lowest-none-requires c κs = search needs
@@ -46,6 +53,8 @@ close-spec =
     tie.close
     (tie.spec
     rise-levels-requires
+    slice-reshare-prefix-lowest-none
+    slice-aggregate-lowest-none
     lowest-none-requires
     enum-known-level
     enum-told

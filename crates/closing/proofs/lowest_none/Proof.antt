@@ -1,20 +1,28 @@
 use borrow.Author.Needs.{needs}
 use Prim.Native.Nat.{_+_, _-_}
-use Rattle.closing.proofs.Levels.{LevelsTried, tries-start, tries-find, tries-go, tries-end}
+use lib.Dec.{eqb}
+use Rattle.lists.specs.Tests.{neg}
+use Rattle.lists.specs.Lists.{any}
+use Rattle.closing.proofs.Levels.{level-fits, level-nears, LevelsTried, tries-start, tries-find, tries-go, tries-end}
 use Rattle.closing.proofs.lowest_none.Statement.{statement}
 use Rattle.closing.proofs.lowest_none.Tie as tie
 use Rattle.closing.proofs.lowest_none.Reads as reads
 use Rattle.closing.proofs.lowest_none.Lts as lts
+use Rattle.blockers.proofs.Level.above.Reads as above-reads
+use Rattle.blockers.proofs.Level.is_at_most.Reads as is-at-most-reads
 use Rattle.blockers.proofs.none_at.Reads as none-at-reads
 
 abbrev Inv-loop : tie.InvT-loop
-Inv-loop masks levels held top tried₀ tried = LevelsTried masks levels held (top .0) tried
+Inv-loop levels top level₀ level = LevelsTried (λ j. neg (any (λ other. eqb other j) levels)) (top .0) level
 
 abbrev μ-loop : tie.MeasureT-loop
-μ-loop masks levels held top tried₀ tried = (top .0 + 1) - tried
+μ-loop levels top level₀ level = (top .0 + 1) - level .0
 
 loop-holds : tie.Need-loop-holds Inv-loop μ-loop
 loop-holds c = search (tries-start, needs)
+
+is-at-most-requires : tie.Need-is-at-most-requires Inv-loop μ-loop
+is-at-most-requires c κs = search needs
 
 none-at-requires : tie.Need-none-at-requires Inv-loop μ-loop
 none-at-requires c κs = search needs
@@ -22,11 +30,11 @@ none-at-requires c κs = search needs
 returns : tie.Need-returns Inv-loop μ-loop
 returns c = search (tries-find, needs)
 
-add-tried : tie.Need-add-tried Inv-loop μ-loop
-add-tried c = search needs
+above-requires : tie.Need-above-requires Inv-loop μ-loop
+above-requires c κs = search (level-fits, needs)
 
 loop-less : tie.Need-loop-less Inv-loop μ-loop
-loop-less c = search needs
+loop-less c = search (level-nears, needs)
 
 loop-again : tie.Need-loop-again Inv-loop μ-loop
 loop-again c = search (tries-go, needs)
@@ -41,9 +49,10 @@ lowest-none-spec =
     Inv-loop
     μ-loop
     loop-holds
+    is-at-most-requires
     none-at-requires
     returns
-    add-tried
+    above-requires
     loop-less
     loop-again
     returns-2)

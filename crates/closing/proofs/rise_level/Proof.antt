@@ -1,6 +1,8 @@
 use borrow.Author.Needs.{needs}
 use Prim.Native.Nat.{_-_}
-use Rattle.closing.proofs.Along.{Walked, walk-starts, walk-other, walk-passes, walk-rises, walk-ends}
+use Rattle.machine.specs.Runs.{systemOf}
+use Rattle.blockers.proofs.Parts.{part-masks, part-levels, part-paired, part-place}
+use Rattle.closing.proofs.Along.{Walked, walk-starts, rises-exactly, walk-passes, walk-rises, walk-ends}
 use Rattle.closing.proofs.rise_level.Statement.{statement}
 use Rattle.closing.proofs.rise_level.Tie as tie
 use Rattle.closing.proofs.rise_level.Reads as reads
@@ -9,7 +11,8 @@ use Rattle.blockers.proofs.rise.Reads as rise-reads
 use Rattle.choices.proofs.rises.Reads as rises-reads
 
 abbrev Inv-loop : tie.InvT-loop
-Inv-loop image head masks₀ levels₀ held level count₀ place₀ masks levels count place = Walked image head masks₀ levels₀ held (level .0) count place masks levels
+Inv-loop image head masks₀ levels₀ held level count₀ place₀ masks levels count place =
+    Walked (systemOf image) masks₀ levels₀ held (level .0) count place masks levels
 
 abbrev μ-loop : tie.MeasureT-loop
 μ-loop image head masks₀ levels₀ held level count₀ place₀ masks levels count place = count - place
@@ -17,11 +20,23 @@ abbrev μ-loop : tie.MeasureT-loop
 loop-holds : tie.Need-loop-holds Inv-loop μ-loop
 loop-holds c = search (walk-starts, needs)
 
-mul-if1 : tie.Need-mul-if1 Inv-loop μ-loop
-mul-if1 c = search needs
+slice-reshare-prefix-rises : tie.Need-slice-reshare-prefix-rises Inv-loop μ-loop
+slice-reshare-prefix-rises c = search needs
 
-slice-read-if1 : tie.Need-slice-read-if1 Inv-loop μ-loop
-slice-read-if1 c = search needs
+slice-aggregate-rises : tie.Need-slice-aggregate-rises Inv-loop μ-loop
+slice-aggregate-rises c = search (part-masks, needs)
+
+slice-reshare-prefix-rises-2 : tie.Need-slice-reshare-prefix-rises-2 Inv-loop μ-loop
+slice-reshare-prefix-rises-2 c = search needs
+
+slice-aggregate-rises-2 : tie.Need-slice-aggregate-rises-2 Inv-loop μ-loop
+slice-aggregate-rises-2 c = search (part-levels, needs)
+
+rises-requires : tie.Need-rises-requires Inv-loop μ-loop
+rises-requires c κs = search (part-paired, part-place, needs)
+
+rise-requires : tie.Need-rise-requires Inv-loop μ-loop
+rise-requires c κs = search (rises-exactly, needs)
 
 add-place : tie.Need-add-place Inv-loop μ-loop
 add-place c = search needs
@@ -30,13 +45,7 @@ loop-less : tie.Need-loop-less Inv-loop μ-loop
 loop-less c = search needs
 
 loop-again : tie.Need-loop-again Inv-loop μ-loop
-loop-again c = search (walk-other, needs)
-
-rises-requires : tie.Need-rises-requires Inv-loop μ-loop
-rises-requires c κs = search needs
-
-rise-requires : tie.Need-rise-requires Inv-loop μ-loop
-rise-requires c κs = search needs
+loop-again c = search (walk-rises, needs)
 
 add-place-2 : tie.Need-add-place-2 Inv-loop μ-loop
 add-place-2 c = search needs
@@ -45,16 +54,7 @@ loop-less-2 : tie.Need-loop-less-2 Inv-loop μ-loop
 loop-less-2 c = search needs
 
 loop-again-2 : tie.Need-loop-again-2 Inv-loop μ-loop
-loop-again-2 c = search (walk-rises, needs)
-
-add-place-3 : tie.Need-add-place-3 Inv-loop μ-loop
-add-place-3 c = search needs
-
-loop-less-3 : tie.Need-loop-less-3 Inv-loop μ-loop
-loop-less-3 c = search needs
-
-loop-again-3 : tie.Need-loop-again-3 Inv-loop μ-loop
-loop-again-3 c = walk-passes (c .before .before .before .before .before .before .before .before .loop .inv) _ (c .before .rises .ensures) (c .before .before .before .before .before .before .before .loop-test .taken) (c .if2 .left)
+loop-again-2 c = search (walk-passes, needs)
 
 same-length : tie.Need-same-length Inv-loop μ-loop
 same-length c = search needs
@@ -72,19 +72,18 @@ rise-level-spec =
     Inv-loop
     μ-loop
     loop-holds
-    mul-if1
-    slice-read-if1
+    slice-reshare-prefix-rises
+    slice-aggregate-rises
+    slice-reshare-prefix-rises-2
+    slice-aggregate-rises-2
+    rises-requires
+    rise-requires
     add-place
     loop-less
     loop-again
-    rises-requires
-    rise-requires
     add-place-2
     loop-less-2
     loop-again-2
-    add-place-3
-    loop-less-3
-    loop-again-3
     same-length
     same-length-2
     returns)

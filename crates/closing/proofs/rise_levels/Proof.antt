@@ -1,29 +1,36 @@
 use borrow.Author.Needs.{needs}
 use Prim.Native.Nat.{_+_, _-_}
-use Rattle.closing.proofs.Levels.{LevelsRisen, levels-start, levels-go, levels-end}
+use Rattle.machine.specs.Runs.{systemOf}
+use Rattle.closing.proofs.Levels.{level-fits, level-nears, LevelsRisen, levels-start, levels-go, levels-end}
 use Rattle.closing.proofs.rise_levels.Statement.{statement}
 use Rattle.closing.proofs.rise_levels.Tie as tie
 use Rattle.closing.proofs.rise_levels.Reads as reads
 use Rattle.closing.proofs.rise_levels.Lts as lts
+use Rattle.blockers.proofs.Level.above.Reads as above-reads
+use Rattle.blockers.proofs.Level.is_at_most.Reads as is-at-most-reads
 use Rattle.closing.proofs.rise_level.Reads as rise-level-reads
 
 abbrev Inv-loop : tie.InvT-loop
-Inv-loop image head masks₀ levels₀ held top count₀ j₀ masks levels count j = LevelsRisen image head masks₀ levels₀ held (top .0) count j masks levels
+Inv-loop image head masks₀ levels₀ held top count₀ level₀ masks levels count level =
+    LevelsRisen (systemOf image) masks₀ levels₀ held (top .0) count (level .0) masks levels
 
 abbrev μ-loop : tie.MeasureT-loop
-μ-loop image head masks₀ levels₀ held top count₀ j₀ masks levels count j = (top .0 + 1) - j
+μ-loop image head masks₀ levels₀ held top count₀ level₀ masks levels count level = (top .0 + 1) - level .0
 
 loop-holds : tie.Need-loop-holds Inv-loop μ-loop
 loop-holds c = search (levels-start, needs)
 
-rise-level-requires : tie.Need-rise-level-requires Inv-loop μ-loop
-rise-level-requires c κs = search needs
+is-at-most-requires : tie.Need-is-at-most-requires Inv-loop μ-loop
+is-at-most-requires c κs = search needs
 
-add-j : tie.Need-add-j Inv-loop μ-loop
-add-j c = search needs
+rise-level-requires : tie.Need-rise-level-requires Inv-loop μ-loop
+rise-level-requires c κs = search (level-fits, needs)
+
+above-requires : tie.Need-above-requires Inv-loop μ-loop
+above-requires c κs = search (level-fits, needs)
 
 loop-less : tie.Need-loop-less Inv-loop μ-loop
-loop-less c = search needs
+loop-less c = search (level-nears, needs)
 
 loop-again : tie.Need-loop-again Inv-loop μ-loop
 loop-again c = search (levels-go, needs)
@@ -44,8 +51,9 @@ rise-levels-spec =
     Inv-loop
     μ-loop
     loop-holds
+    is-at-most-requires
     rise-level-requires
-    add-j
+    above-requires
     loop-less
     loop-again
     same-length

@@ -9,6 +9,9 @@ use Rattle.checker.proofs.run.run.Reads as run-reads
 run-requires : tie.Need-run-requires
 run-requires c κs = search needs
 
+cast-t18 : tie.Need-cast-t18
+cast-t18 c = search needs
+
 same-length : tie.Need-same-length
 same-length c = search needs
 
@@ -22,8 +25,8 @@ same-length-4 : tie.Need-same-length-4
 same-length-4 c = search needs
 
 returns : tie.Need-returns
-returns c = ran-is _ _ _ _ _ _ (c .before .before .before .before .before .before .before .before .before .run .ensures)
+returns c = search (ran-is, needs)
 
 pub afa-run-spec : {M : Type 1} → statement M
 afa-run-spec =
-    tie.close (tie.spec run-requires same-length same-length-2 same-length-3 same-length-4 returns)
+    tie.close (tie.spec run-requires cast-t18 same-length same-length-2 same-length-3 same-length-4 returns)

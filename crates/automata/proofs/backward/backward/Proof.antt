@@ -1,53 +1,59 @@
-use Rattle.automata.proofs.BackwardSets.{offset-readable, size-readable, span-whole, span-backward}
 use borrow.Author.Needs.{needs}
+use Prim.Native.Nat.{_-_}
+use Rattle.automata.proofs.BackwardSets.{RowsAhead, row-inside, state-fits, walk-goes, pair-readable, walk-starts, walk-ends}
 use Rattle.automata.proofs.backward.backward.Statement.{statement}
 use Rattle.automata.proofs.backward.backward.Tie as tie
 use Rattle.automata.proofs.backward.backward.Reads as reads
 use Rattle.automata.proofs.backward.backward.Lts as lts
-use Rattle.automata.proofs.backward.with_rows.Reads as with-rows-reads
-use Rattle.automata.proofs.bytes.read4.Reads as read4-reads
+use Rattle.automata.proofs.backward.with_row.Reads as with-row-reads
+use Rattle.automata.proofs.image.offset_of.Reads as offset-of-reads
+use Rattle.automata.proofs.image.size_of.Reads as size-of-reads
 
-cast-s : tie.Need-cast-s
-cast-s c = search needs
+abbrev Inv-loop : tie.InvT-loop
+Inv-loop image x at₀ end set₀ at set = RowsAhead image at₀ end x at set
 
-mul-read4 : tie.Need-mul-read4
-mul-read4 c = search needs
+abbrev μ-loop : tie.MeasureT-loop
+μ-loop image x at₀ end set₀ at set = end - at
 
-add-read4 : tie.Need-add-read4
-add-read4 c = search needs
+offset-of-requires : tie.Need-offset-of-requires Inv-loop μ-loop
+offset-of-requires c κs = search (pair-readable, needs)
 
-read4-requires : tie.Need-read4-requires
-read4-requires c κs = search (offset-readable, needs)
+size-of-requires : tie.Need-size-of-requires Inv-loop μ-loop
+size-of-requires c κs = search (pair-readable, needs)
 
-mul-read4-2 : tie.Need-mul-read4-2
-mul-read4-2 c = search needs
+add-end : tie.Need-add-end Inv-loop μ-loop
+add-end c = search needs
 
-add-read4-2 : tie.Need-add-read4-2
-add-read4-2 c = search needs
+loop-holds : tie.Need-loop-holds Inv-loop μ-loop
+loop-holds c = search (walk-starts, needs)
 
-read4-requires-2 : tie.Need-read4-requires-2
-read4-requires-2 c κs = search (size-readable, needs)
+with-row-requires : tie.Need-with-row-requires Inv-loop μ-loop
+with-row-requires c κs = search (row-inside, state-fits, needs)
 
-add-with-rows : tie.Need-add-with-rows
-add-with-rows c = search needs
+add-at : tie.Need-add-at Inv-loop μ-loop
+add-at c = search needs
 
-with-rows-requires : tie.Need-with-rows-requires
-with-rows-requires c κs = search (span-whole, needs)
+loop-less : tie.Need-loop-less Inv-loop μ-loop
+loop-less c = search needs
 
-returns : tie.Need-returns
-returns c = search (span-backward, needs)
+loop-again : tie.Need-loop-again Inv-loop μ-loop
+loop-again c = search (walk-goes, needs)
+
+returns : tie.Need-returns Inv-loop μ-loop
+returns c = search (walk-ends, needs)
 
 pub backward-spec : {M : Type 1} → statement M
 backward-spec =
     tie.close
     (tie.spec
-    cast-s
-    mul-read4
-    add-read4
-    read4-requires
-    mul-read4-2
-    add-read4-2
-    read4-requires-2
-    add-with-rows
-    with-rows-requires
+    Inv-loop
+    μ-loop
+    offset-of-requires
+    size-of-requires
+    add-end
+    loop-holds
+    with-row-requires
+    add-at
+    loop-less
+    loop-again
     returns)

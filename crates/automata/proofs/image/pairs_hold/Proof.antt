@@ -5,17 +5,18 @@ use Rattle.automata.proofs.image.pairs_hold.Statement.{statement}
 use Rattle.automata.proofs.image.pairs_hold.Tie as tie
 use Rattle.automata.proofs.image.pairs_hold.Reads as reads
 use Rattle.automata.proofs.image.pairs_hold.Lts as lts
-use Rattle.automata.proofs.bytes.read4.Reads as read4-reads
 use Rattle.automata.proofs.bytes.wide.Reads as wide-reads
+use Rattle.automata.proofs.image.offset_of.Reads as offset-of-reads
+use Rattle.automata.proofs.image.size_of.Reads as size-of-reads
 
 abbrev Inv-loop : tie.InvT-loop
-Inv-loop image symbols start₀ s₀ start s = PairsLeft image symbols start s
+Inv-loop image symbols start₀ symbol₀ start symbol = PairsLeft image start (symbol .0)
 
 abbrev μ-loop : tie.MeasureT-loop
-μ-loop image symbols start₀ s₀ start s = symbols - s
+μ-loop image symbols start₀ symbol₀ start symbol = symbols - symbol .0
 
-shared-slice-read-wide : tie.Need-shared-slice-read-wide Inv-loop μ-loop
-shared-slice-read-wide c = search needs
+shared-slice-read-symbols : tie.Need-shared-slice-read-symbols Inv-loop μ-loop
+shared-slice-read-symbols c = search needs
 
 wide-requires : tie.Need-wide-requires Inv-loop μ-loop
 wide-requires c κs = search needs
@@ -29,23 +30,11 @@ add-start c = search needs
 loop-holds : tie.Need-loop-holds Inv-loop μ-loop
 loop-holds c = search (pairs-none, needs)
 
-mul-read4 : tie.Need-mul-read4 Inv-loop μ-loop
-mul-read4 c = search needs
+offset-of-requires : tie.Need-offset-of-requires Inv-loop μ-loop
+offset-of-requires c κs = search needs
 
-add-read4 : tie.Need-add-read4 Inv-loop μ-loop
-add-read4 c = search needs
-
-read4-requires : tie.Need-read4-requires Inv-loop μ-loop
-read4-requires c κs = search needs
-
-mul-read4-2 : tie.Need-mul-read4-2 Inv-loop μ-loop
-mul-read4-2 c = search needs
-
-add-read4-2 : tie.Need-add-read4-2 Inv-loop μ-loop
-add-read4-2 c = search needs
-
-read4-requires-2 : tie.Need-read4-requires-2 Inv-loop μ-loop
-read4-requires-2 c κs = search needs
+size-of-requires : tie.Need-size-of-requires Inv-loop μ-loop
+size-of-requires c κs = search needs
 
 returns : tie.Need-returns Inv-loop μ-loop
 returns c = search (pair-offset, needs)
@@ -56,8 +45,8 @@ returns-2 c = search (pair-size, needs)
 add-start-2 : tie.Need-add-start-2 Inv-loop μ-loop
 add-start-2 c = search needs
 
-add-s : tie.Need-add-s Inv-loop μ-loop
-add-s c = search needs
+add-t13 : tie.Need-add-t13 Inv-loop μ-loop
+add-t13 c = search needs
 
 loop-less : tie.Need-loop-less Inv-loop μ-loop
 loop-less c = search needs
@@ -74,21 +63,17 @@ pairs-hold-spec =
     (tie.spec
     Inv-loop
     μ-loop
-    shared-slice-read-wide
+    shared-slice-read-symbols
     wide-requires
     mul-start
     add-start
     loop-holds
-    mul-read4
-    add-read4
-    read4-requires
-    mul-read4-2
-    add-read4-2
-    read4-requires-2
+    offset-of-requires
+    size-of-requires
     returns
     returns-2
     add-start-2
-    add-s
+    add-t13
     loop-less
     loop-again
     returns-3)

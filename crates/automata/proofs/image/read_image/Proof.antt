@@ -1,4 +1,4 @@
-use Rattle.automata.proofs.ValidImage.{head-in, read-refused, read-valid}
+use Rattle.automata.proofs.Reading.{read-refused, read-valid, head-in}
 use borrow.Author.Needs.{needs}
 use Rattle.automata.proofs.image.read_image.Statement.{statement}
 use Rattle.automata.proofs.image.read_image.Tie as tie

@@ -1,6 +1,6 @@
 use borrow.Author.Needs.{needs}
-use Rattle.checker.specs.Whole.{lentOf}
-use Rattle.checker.proofs.Going.{remaining, Driven, drive-starts, drive-ready, drive-goes, drive-less, drive-ends}
+use Rattle.checker.specs.Stage.{lentOf, termsOf}
+use Rattle.checker.proofs.Going.{remaining, Driven, drive-starts, drive-read, drive-ready, drive-goes, drive-less, drive-ends}
 use Rattle.checker.proofs.run.drive.Statement.{statement}
 use Rattle.checker.proofs.run.drive.Tie as tie
 use Rattle.checker.proofs.run.drive.Reads as reads
@@ -9,25 +9,25 @@ use Rattle.checker.proofs.run.begin.Reads as begin-reads
 use Rattle.checker.proofs.steps.step.Reads as step-reads
 
 abbrev Inv-loop : tie.InvT-loop
-Inv-loop image head masks₀ levels₀ cases₀ symbols₀ hints allowance run₀ masks levels cases symbols run = Driven image head (lentOf masks₀ levels₀ cases₀ symbols₀) hints allowance masks levels cases symbols run
+Inv-loop image head masks₀ levels₀ cases₀ symbols₀ hints allowance run₀ masks levels cases symbols run = Driven image head (lentOf masks₀ levels₀ cases₀ symbols₀) (termsOf hints allowance) masks levels cases symbols run
 
 abbrev μ-loop : tie.MeasureT-loop
-μ-loop image head masks₀ levels₀ cases₀ symbols₀ hints allowance run₀ masks levels cases symbols run = remaining allowance run
+μ-loop image head masks₀ levels₀ cases₀ symbols₀ hints allowance run₀ masks levels cases symbols run = remaining allowance (run .answer) (run .steps)
 
 begin-requires : tie.Need-begin-requires Inv-loop μ-loop
 begin-requires c κs = search needs
 
 loop-holds : tie.Need-loop-holds Inv-loop μ-loop
-loop-holds c = drive-starts (c .before .before .before .before .before .before .before .args .hints .now) (c .before .before .before .before .before .before .before .args .allowance) (c .before .before .before .before .before .before .before .pre .0) (c .before .before .before .before .before .before .before .pre .1) (c .begin .ensures)
+loop-holds c = search (drive-starts, needs)
 
 step-requires : tie.Need-step-requires Inv-loop μ-loop
-step-requires c κs = drive-ready (c .before .before .before .before .before .before .loop .inv) (search needs)
+step-requires c κs = (search (drive-read, needs), search (drive-ready, needs))
 
 loop-less : tie.Need-loop-less Inv-loop μ-loop
 loop-less c = drive-less (c .before .before .before .before .before .before .before .before .before .before .before .before .before .before .before .loop .inv) (search needs) (c .before .before .before .before .before .before .before .before .step .ensures)
 
 loop-again : tie.Need-loop-again Inv-loop μ-loop
-loop-again c = drive-goes (c .before .before .before .before .before .before .before .before .before .before .before .before .before .before .before .loop .inv) (search needs) (c .before .before .before .before .before .before .before .before .step .ensures) (search needs) (search needs) (search needs) (search needs)
+loop-again c = search (drive-goes, needs)
 
 same-length : tie.Need-same-length Inv-loop μ-loop
 same-length c = search needs
@@ -42,7 +42,7 @@ same-length-4 : tie.Need-same-length-4 Inv-loop μ-loop
 same-length-4 c = search needs
 
 returns : tie.Need-returns Inv-loop μ-loop
-returns c = drive-ends (c .before .before .loop .inv) (search needs)
+returns c = search (drive-ends, needs)
 
 pub drive-spec : {M : Type 1} → statement M
 drive-spec =

@@ -43,13 +43,13 @@ same-length-4 : tie.Need-same-length-4
 same-length-4 c = search needs
 
 returns : tie.Need-returns
-returns c = run-refuses-rooms _ _ _ _ _ (c .before .before .before .before .before .before .before .before .before .before .before .before .before .before .before .before .before .args .hints .now) (c .before .before .before .before .before .before .before .before .before .before .before .before .before .before .before .before .before .args .allowance) _ (c .before .before .before .before .before .before .before .before .before .before .read-image .ensures) _ (c .before .before .before .before .before .before .before .before .head .given .1) _ (c .before .before .check-rooms .ensures) _ (search needs) (c .refuse2 .ensures)
+returns c = run-refuses-rooms _ _ _ _ _ _ _ _ (c .before .before .before .before .before .before .before .before .before .before .read-image .ensures) _ (c .before .before .before .before .before .before .before .before .head .given .1) _ (c .before .before .check-rooms .ensures) _ (search needs) (c .refuse2 .ensures)
 
 go-requires : tie.Need-go-requires
-go-requires c κs = run-runnable _ _ _ _ _ (c .before .before .before .before .before .before .before .before .before .before .before .before .before .before .before .before .before .before .before .before .args .hints .now) (c .before .before .before .before .before .before .before .before .before .before .before .before .before .before .before .before .before .before .before .before .args .allowance) _ (c .before .before .before .before .before .before .before .before .before .before .before .before .before .read-image .ensures) _ (c .before .before .before .before .before .before .before .before .before .before .before .head .given .1) _ (c .before .before .before .before .before .check-rooms .ensures) (search needs)
+go-requires c κs = run-runnable _ _ _ _ _ _ _ (c .before .before .before .before .before .before .before .before .before .before .before .before .before .read-image .ensures) _ (c .before .before .before .before .before .before .before .before .before .before .before .head .given .1) _ (c .before .before .before .before .before .check-rooms .ensures) (search needs)
 
 returns-2 : tie.Need-returns-2
-returns-2 c = run-refuses-image _ _ _ _ _ (c .before .before .before .before .before .before .before .before .before .before .before .args .hints .now) (c .before .before .before .before .before .before .before .before .before .before .before .args .allowance) _ (c .before .before .before .before .read-image .ensures) _ _ (c .before .before .number .given .1) (c .refuse .ensures)
+returns-2 c = search (run-refuses-image, needs)
 
 same-length-5 : tie.Need-same-length-5
 same-length-5 c = search needs
@@ -64,7 +64,7 @@ same-length-8 : tie.Need-same-length-8
 same-length-8 c = search needs
 
 returns-3 : tie.Need-returns-3
-returns-3 c = run-goes _ _ _ _ _ (c .before .before .before .before .before .before .before .before .before .before .before .before .before .before .before .before .before .before .before .before .before .before .before .before .before .before .before .before .before .args .hints .now) (c .before .before .before .before .before .before .before .before .before .before .before .before .before .before .before .before .before .before .before .before .before .before .before .before .before .before .before .before .before .args .allowance) _ (c .before .before .before .before .before .before .before .before .before .before .before .before .before .before .before .before .before .before .before .before .before .before .read-image .ensures) _ (c .before .before .before .before .before .before .before .before .before .before .before .before .before .before .before .before .before .before .before .before .head .given .1) _ (c .before .before .before .before .before .before .before .before .before .before .before .before .before .before .check-rooms .ensures) _ (search needs) (c .before .before .before .before .before .before .before .before .go .ensures)
+returns-3 c = search (run-goes, needs)
 
 pub run-spec : {M : Type 1} → statement M
 run-spec =

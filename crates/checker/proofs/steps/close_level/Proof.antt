@@ -1,32 +1,45 @@
-use Rattle.checker.proofs.Stages.{ready-given}
+use Rattle.checker.proofs.Stages.{ready-holds}
 use Rattle.checker.proofs.Closing.{level-small, close-is}
 use borrow.Author.Needs.{needs}
 use Rattle.checker.proofs.steps.close_level.Statement.{statement}
 use Rattle.checker.proofs.steps.close_level.Tie as tie
 use Rattle.checker.proofs.steps.close_level.Reads as reads
 use Rattle.checker.proofs.steps.close_level.Lts as lts
+use Rattle.checker.proofs.record.Run.counted.Reads as counted-reads
 use Rattle.checker.proofs.steps.working_unless.Reads as working-unless-reads
 use Rattle.closing.proofs.close.Reads as close-reads
 
+-- src/steps.rt:299:9
 close-requires : tie.Need-close-requires
-close-requires c κs = (ready-given (c .before .before .before .before .before .before .before .before .pre .0), level-small (c .before .before .before .before .before .before .before .before .pre .0))
+close-requires c κs = (search needs, search (ready-holds, needs), search (level-small, needs))
 
+-- src/steps.rt:300:33
 working-unless-requires : tie.Need-working-unless-requires
 working-unless-requires c κs = search needs
 
-add-t15 : tie.Need-add-t15
-add-t15 c = search needs
+-- src/steps.rt:300:9
+counted-requires : tie.Need-counted-requires
+counted-requires c κs = search needs
 
+-- src/steps.rt:285:1
 same-length : tie.Need-same-length
 same-length c = search needs
 
+-- src/steps.rt:285:1
 same-length-2 : tie.Need-same-length-2
 same-length-2 c = search needs
 
+-- src/steps.rt:285:1
 returns : tie.Need-returns
-returns c = close-is (c .before .before .before .before .before .before .before .before .before .before .before .before .before .before .before .pre .0) (c .before .before .before .before .before .before .before .before .before .before .before .before .before .before .before .pre .1) (c .before .before .before .before .before .before .close .ensures) (c .before .working-unless .ensures)
+returns c = search (close-is, needs)
 
 pub close-level-spec : {M : Type 1} → statement M
 close-level-spec =
     tie.close
-    (tie.spec close-requires working-unless-requires add-t15 same-length same-length-2 returns)
+    (tie.spec
+    close-requires
+    working-unless-requires
+    counted-requires
+    same-length
+    same-length-2
+    returns)

@@ -1,96 +1,110 @@
-use Rattle.checker.proofs.Stages.{ready-word}
-use Rattle.checker.proofs.Working.{below-small, work-blocks, work-finds, pend-room, work-pends}
+use Rattle.blockers.proofs.Parts.{part-masks, part-levels, part-paired}
+use Rattle.checker.proofs.Stages.{ready-holds, ready-word}
+use Rattle.checker.proofs.Working.{below-small, work-blocks, pend-room, work-extends}
 use borrow.Author.Needs.{needs}
 use Rattle.checker.proofs.steps.work.Statement.{statement}
 use Rattle.checker.proofs.steps.work.Tie as tie
 use Rattle.checker.proofs.steps.work.Reads as reads
 use Rattle.checker.proofs.steps.work.Lts as lts
 use Rattle.checker.proofs.steps.block.Reads as block-reads
-use Rattle.checker.proofs.steps.find_word.Reads as find-word-reads
-use Rattle.checker.proofs.steps.pend_more.Reads as pend-more-reads
+use Rattle.checker.proofs.steps.extend.Reads as extend-reads
 use Rattle.choices.proofs.first_symbol.Reads as first-symbol-reads
-use Rattle.masks.proofs.subset.Reads as subset-reads
 
+-- src/steps.rt:256:19
 sub-x : tie.Need-sub-x
 sub-x c = search needs
 
+-- src/steps.rt:256:13
 mul-x : tie.Need-mul-x
 mul-x c = search needs
 
+-- src/steps.rt:256:13
 slice-read-x : tie.Need-slice-read-x
 slice-read-x c = search needs
 
-cast-t18 : tie.Need-cast-t18
-cast-t18 c = search needs
+-- src/steps.rt:257:37
+cast-t19 : tie.Need-cast-t19
+cast-t19 c = search needs
 
-sub-t19 : tie.Need-sub-t19
-sub-t19 c = search needs
+-- src/steps.rt:257:23
+sub-t20 : tie.Need-sub-t20
+sub-t20 c = search needs
 
+-- src/steps.rt:259:52
+slice-reshare-prefix-first-symbol : tie.Need-slice-reshare-prefix-first-symbol
+slice-reshare-prefix-first-symbol c = search needs
+
+-- src/steps.rt:259:52
+slice-aggregate-first-symbol : tie.Need-slice-aggregate-first-symbol
+slice-aggregate-first-symbol c = search (part-masks, ready-holds, needs)
+
+-- src/steps.rt:259:68
+slice-reshare-prefix-first-symbol-2 : tie.Need-slice-reshare-prefix-first-symbol-2
+slice-reshare-prefix-first-symbol-2 c = search needs
+
+-- src/steps.rt:259:68
+slice-aggregate-first-symbol-2 : tie.Need-slice-aggregate-first-symbol-2
+slice-aggregate-first-symbol-2 c = search (part-levels, ready-holds, needs)
+
+-- src/steps.rt:259:9
 first-symbol-requires : tie.Need-first-symbol-requires
-first-symbol-requires c κs = search needs
+first-symbol-requires c κs = search (part-paired, ready-holds, needs)
 
+-- src/steps.rt:260:19
 enum-known-found : tie.Need-enum-known-found
 enum-known-found c = search needs
 
+-- src/steps.rt:264:13
 enum-told : tie.Need-enum-told
 enum-told c = search needs
 
+-- src/steps.rt:261:9
 block-requires : tie.Need-block-requires
-block-requires c κs = (c .before .before .before .before .before .before .before .before .before .before .before .before .before .before .before .before .before .before .before .pre .0, c .before .before .before .before .before .before .before .before .before .before .before .before .before .before .before .before .before .before .before .pre .1, below-small (c .before .before .before .before .before .before .before .before .before .before .before .before .before .before .before .before .before .before .before .pre .0) (c .before .before .before .before .before .before .before .before .before .before .before .before .before .before .before .before .before .before .before .pre .1), c .before .before .before .before .before .before .before .before .before .before .before .before .before .before .before .before .before .before .before .pre .2)
+block-requires c κs = let start = c .before .before .before .before .before .before .before .before .before .before .before .before .before .before .before .before .before .before .before .pre in (start .0, start .1, start .2, below-small (start .0) (start .1) (start .2), start .3)
 
+-- src/steps.rt:261:9
 same-length : tie.Need-same-length
 same-length c = search needs
 
+-- src/steps.rt:261:9
 same-length-2 : tie.Need-same-length-2
 same-length-2 c = search needs
 
+-- src/steps.rt:261:9
 same-length-3 : tie.Need-same-length-3
 same-length-3 c = search needs
 
+-- src/steps.rt:261:9
 same-length-4 : tie.Need-same-length-4
 same-length-4 c = search needs
 
+-- src/steps.rt:261:9
 returns : tie.Need-returns
-returns c = work-blocks (c .before .before .before .before .before .before .before .before .before .before .before .before .before .before .before .before .before .before .before .before .before .before .before .before .before .before .before .before .pre .0) (c .before .before .before .before .before .before .before .before .before .before .before .before .before .before .before .before .before .before .before .before .before .before .before .before .before .before .before .before .pre .1) (c .before .before .before .before .before .before .before .before .before .before .before .before .before .before .before .before .before .before .before .before .before .before .before .before .before .before .before .before .args .hints .now) (c .before .before .before .before .before .before .before .before .before .before .before .before .before .before .before .first-symbol .ensures) (search needs) (c .before .before .before .before .before .before .before .before .block .ensures)
+returns c = let start = c .before .before .before .before .before .before .before .before .before .before .before .before .before .before .before .before .before .before .before .before .before .before .before .before .before .before .before .before .pre in work-blocks (start .0) (start .1) (start .2) _ (c .before .before .before .before .before .before .before .before .before .before .before .before .before .before .before .first-symbol .ensures) (search needs) (search needs)
 
-subset-requires : tie.Need-subset-requires
-subset-requires c κs = search needs
+-- src/steps.rt:274:5
+extend-requires : tie.Need-extend-requires
+extend-requires c κs = (search (ready-word, needs), search needs, search needs, search (pend-room, needs))
 
-find-word-requires : tie.Need-find-word-requires
-find-word-requires c κs = (ready-word (c .before .before .before .before .before .before .before .before .before .before .before .before .before .before .before .before .before .before .before .before .pre .0), c .before .before .before .before .before .before .before .before .before .before .before .before .before .before .before .before .before .before .before .before .pre .1, c .before .before .before .before .before .before .before .before .before .before .before .before .before .before .before .before .before .before .before .before .pre .2)
-
+-- src/steps.rt:241:1
 same-length-5 : tie.Need-same-length-5
 same-length-5 c = search needs
 
+-- src/steps.rt:241:1
 same-length-6 : tie.Need-same-length-6
 same-length-6 c = search needs
 
+-- src/steps.rt:241:1
 same-length-7 : tie.Need-same-length-7
 same-length-7 c = search needs
 
+-- src/steps.rt:241:1
 same-length-8 : tie.Need-same-length-8
 same-length-8 c = search needs
 
+-- src/steps.rt:241:1
 returns-2 : tie.Need-returns-2
-returns-2 c = work-finds (c .before .before .before .before .before .before .before .before .before .before .before .before .before .before .before .before .before .before .before .before .before .before .before .before .before .pre .0) (c .before .before .before .before .before .before .before .before .before .before .before .before .before .before .before .before .before .before .before .before .before .before .before .before .before .pre .1) (c .before .before .before .before .before .before .before .before .before .before .before .before .before .before .before .before .before .before .before .before .before .before .before .before .before .args .hints .now) (c .before .before .before .before .before .before .before .before .before .before .before .before .first-symbol .ensures) _ _ (search needs) _ (c .before .before .before .before .before .before .before .before .subset .ensures) (search needs) (c .before .before .before .before .find-word .ensures)
-
-pend-more-requires : tie.Need-pend-more-requires
-pend-more-requires c κs = (pend-room (c .before .before .before .before .before .before .before .before .before .before .before .before .before .before .before .before .before .before .before .before .pre .0) (c .before .before .before .before .before .before .before .before .before .before .before .before .before .before .before .before .before .before .before .before .pre .1) (c .before .before .before .before .before .before .before .before .before .before .before .before .before .before .before .before .before .before .before .before .args .hints .now) (c .before .before .before .before .before .before .before .first-symbol .ensures) _ _ (c .before .before .before .before .before .found .given .1) _ (c .before .before .before .subset .ensures) (search needs), c .before .before .before .before .before .before .before .before .before .before .before .before .before .before .before .before .before .before .before .before .pre .2)
-
-same-length-9 : tie.Need-same-length-9
-same-length-9 c = search needs
-
-same-length-10 : tie.Need-same-length-10
-same-length-10 c = search needs
-
-same-length-11 : tie.Need-same-length-11
-same-length-11 c = search needs
-
-same-length-12 : tie.Need-same-length-12
-same-length-12 c = search needs
-
-returns-3 : tie.Need-returns-3
-returns-3 c = work-pends (c .before .before .before .before .before .before .before .before .before .before .before .before .before .before .before .before .before .before .before .before .before .before .before .before .before .pre .0) (c .before .before .before .before .before .before .before .before .before .before .before .before .before .before .before .before .before .before .before .before .before .before .before .before .before .pre .1) (c .before .before .before .before .before .before .before .before .before .before .before .before .before .before .before .before .before .before .before .before .before .before .before .before .before .args .hints .now) (c .before .before .before .before .before .before .before .before .before .before .before .before .first-symbol .ensures) _ _ (search needs) _ (c .before .before .before .before .before .before .before .before .subset .ensures) (search needs) (c .before .before .before .before .pend-more .ensures)
+returns-2 c = let start = c .before .before .before .before .before .before .before .before .before .before .before .before .before .before .before .before .before .before .before .before .before .before .before .pre in work-extends (start .0) (start .1) (start .2) _ (c .before .before .before .before .before .before .before .before .before .before .first-symbol .ensures) _ _ (c .before .before .before .before .before .before .before .before .found .given .1) (search needs)
 
 pub work-spec : {M : Type 1} → statement M
 work-spec =
@@ -99,8 +113,12 @@ work-spec =
     sub-x
     mul-x
     slice-read-x
-    cast-t18
-    sub-t19
+    cast-t19
+    sub-t20
+    slice-reshare-prefix-first-symbol
+    slice-aggregate-first-symbol
+    slice-reshare-prefix-first-symbol-2
+    slice-aggregate-first-symbol-2
     first-symbol-requires
     enum-known-found
     enum-told
@@ -110,16 +128,9 @@ work-spec =
     same-length-3
     same-length-4
     returns
-    subset-requires
-    find-word-requires
+    extend-requires
     same-length-5
     same-length-6
     same-length-7
     same-length-8
-    returns-2
-    pend-more-requires
-    same-length-9
-    same-length-10
-    same-length-11
-    same-length-12
-    returns-3)
+    returns-2)

@@ -1,0 +1,301 @@
+-- What holds of chains of calls, each given what is its own: the invariants are kept by one call, so by a chain. A run is the chain whose calls are all
+-- given the same. Assumes nothing.
+use Prim.Native.Nat.{ℕ, zero, suc, _+_, _^_, _≤_, _<_}
+use mathlib.Core.Path.{_≡_, refl, sym, ap, subst, _∙_}
+use mathlib.Core.Bool.{Bool, true, false}
+use mathlib.Core.List.{List, [], _∷_, _++_}
+use mathlib.Core.Logic.{_⊎_, inl, inr}
+use native.Mathlib.Omega.{arith}
+use borrow.Author.Tests.{lt-ltb, le-leb}
+use lib.ListN.{length, replicate, length-replicate}
+use Rattle.lists.specs.Tests.{choose}
+use Rattle.lists.specs.Lists.{_∈_, here, Each, any}
+use Rattle.lists.proofs.Lists.{in-none, in-cases, in-left, in-right}
+use Rattle.masks.specs.Sets.{subset}
+use Rattle.machine.specs.System.{System}
+use Rattle.machine.specs.Machine.{Configuration, Given, Rooms, beginning, Step, step}
+use Rattle.machine.specs.Machine.{Next, goesOn, ends, comesTo, judge, advance, chain, begin, Outcome, nonempty}
+use Rattle.machine.specs.Meaning.{Lacks}
+use Rattle.machine.proofs.Language.{Lawful, Sound, Decided, decidedNonempty, IsVerdict}
+use Rattle.machine.proofs.Steps.{Judged, roomToOpen, extended, roomToBlock, closed, found, emptied, noRoomToOpen, noRoomToBlock}
+use Rattle.machine.proofs.Steps.{Advanced, tried, spent, advanced, advanced-counts, advance-made, EndingCall, raise, step-raised}
+use Rattle.machine.proofs.Steps.{chain-keeps, ended-stays, chain-ended-by, works-or-ended, works-once, ends-once, madeBy, step-counts}
+use Rattle.machine.proofs.Invariant.{FinalsClear, beginning-holds}
+use Rattle.machine.proofs.Verdicts.{Holds, RightAnswer, clear-finals, start-right, advanced-right}
+use Rattle.machine.proofs.Standing.{Counted, advanced-counted, beginning-counted}
+use Rattle.machine.proofs.Bound.{Bounded, advanced-bounded, advanced-decided, beginning-bounded}
+
+-- what holds of a run that works
+pub record Working (S : System) (rooms : Rooms) (c : Configuration) : Type 0 where
+  pub clear : FinalsClear S
+  pub holds : Holds S c
+  pub counted : Counted rooms c
+  pub bounded : Bounded S c
+
+-- what holds of a run that has ended
+pub record Done (S : System) (rooms : Rooms) (outcome : Outcome) : Type 0 where
+  pub right : RightAnswer S outcome
+  pub counted : Counted rooms (comesTo (ends outcome))
+
+abbrev pub Sure : System → Rooms → Next → Type 0
+Sure S rooms (goesOn c) = Working S rooms c
+Sure S rooms (ends outcome) = Done S rooms outcome
+
+-- each call grows soundly
+abbrev pub AllSound : System → List Given → Type 0
+AllSound S given = Each (λ g. Sound S (g .grow)) given
+
+-- the run works no more
+pub record Ended (n : Next) : Type 0 where
+  pub outcome : Outcome
+  pub is : n ≡ ends outcome
+
+-- what holds of one holds of it so many times
+pub each-same : (P : Given → Type 0) (given : Given) → P given → (count : ℕ) → Each P (replicate count given)
+each-same P given p zero g m = absurd (in-none m)
+each-same P given p (suc count) g m = at (λ k. each-same P given p count g k) (in-cases m)
+  where
+    at : (g ∈ replicate count given → P g) → (g ≡ given) ⊎ g ∈ replicate count given → P g
+    at rec (inl e) = rw e p
+    at rec (inr k) = rec k
+
+-- no more steps were made than so many
+abbrev Within : ℕ → Next → Type 0
+Within most n = comesTo n .steps ≤ most
+
+-- "Start: if I is a subset of F, answer 1 with the empty word and 0 steps. Otherwise steps follow."
+data Begun (S : System) : Next → Type 0 where
+  answered : any (subset (S .initial)) (S .finals) ≡ true → Begun S (ends (nonempty [] beginning))
+  started : any (subset (S .initial)) (S .finals) ≡ false → Begun S (goesOn beginning)
+
+begin-begun : (S : System) → Begun S (begin S)
+unfolding begin choose
+begin-begun S = at (any (subset (S .initial)) (S .finals)) refl
+  where
+    at : (b : Bool) → any (subset (S .initial)) (S .finals) ≡ b → Begun S (choose b (ends (nonempty [] beginning)) (goesOn beginning))
+    at true e = answered e
+    at false e = started e
+
+module _ (S : System) (rooms : Rooms) where
+  -- a call that ends without a verdict lacks steps or room
+  lacked : (last : Given) {c : Configuration} {st : Step} {outcome : Outcome} → step S last c ≡ st → c .steps < last .allowance
+      → Counted rooms c → Judged rooms c st (ends outcome) → Lacks S rooms last c outcome
+  lacked last e l k found = tt
+  lacked last e l k emptied = tt
+  lacked last e l k (noRoomToOpen {d = d} h) = (refl, record { allowed = l; after = d; following = e; full = omega (arith, k .word-fits) })
+  lacked last e l k (noRoomToBlock {d = d} h) = (refl, record { allowed = l; after = d; following = e; full = h })
+
+  pub advanced-lacks : {last : Given} {c : Configuration} {outcome : Outcome} → Counted rooms c → Advanced S rooms last c (ends outcome)
+      → Lacks S rooms last c outcome
+  advanced-lacks {last} k (tried l j) = lacked last refl l k j
+  advanced-lacks k (spent l) = (refl, l)
+
+  -- what the call that ended a chain found, and that it is one of the chain's
+  pub ended-advanced : {n : Next} {given : List Given} {outcome : Outcome} (by : EndingCall S rooms n given outcome)
+      → Advanced S rooms (by .last) (by .at) (ends outcome)
+  ended-advanced by = subst (λ (n : Next). Advanced S rooms (by .last) (by .at) n) (by .ended) (advanced S rooms (by .last) (by .at))
+
+  pub ended-each : {n : Next} {given : List Given} {outcome : Outcome} (P : Given → Type 0) → Each P given
+      → (by : EndingCall S rooms n given outcome) → Each P (by .before ++ by .last ∷ by .later)
+  ended-each P all by = subst (λ (l : List Given). Each P l) (by .split) all
+
+  pub ended-last : {n : Next} {given : List Given} {outcome : Outcome} (P : Given → Type 0) → Each P given
+      → (by : EndingCall S rooms n given outcome) → P (by .last)
+  ended-last P all by = ended-each P all by (by .last) (in-right (by .before) (here refl))
+
+  -- a chain that works counts its calls
+  steps-counted : (c : Configuration) (given : List Given) {d : Configuration} → chain S rooms (goesOn c) given ≡ goesOn d
+      → d .steps ≡ c .steps + length given
+  unfolding chain
+  steps-counted c [] e = omega (arith, ap (λ (x : Configuration). x .steps) (works-once e))
+  steps-counted c (given ∷ later) {d} e = at (λ x f. steps-counted x later f) (advance S rooms given (goesOn c)) (advanced S rooms given c) e
+    where
+      at : ((x : Configuration) → chain S rooms (goesOn x) later ≡ goesOn d → d .steps ≡ x .steps + length later)
+          → (n : Next) → Advanced S rooms given c n → chain S rooms n later ≡ goesOn d → d .steps ≡ c .steps + suc (length later)
+      at rec (goesOn x) a f = omega (arith, rec x f, advanced-counts S rooms a)
+      at rec (ends o) a f = absurd (works-or-ended (sym (sym (ended-stays S rooms o later) ∙ f)))
+
+  pub working-steps : {c : Configuration} (given : List Given) → chain S rooms (begin S) given ≡ goesOn c → c .steps ≡ length given
+  unfolding beginning
+  working-steps {c} given = at (begin-begun S)
+    where
+      at : {n : Next} → Begun S n → chain S rooms n given ≡ goesOn c → c .steps ≡ length given
+      at (answered b) e = absurd (works-or-ended (sym (sym (ended-stays S rooms (nonempty [] beginning) given) ∙ e)))
+      at (started b) e = omega (arith, steps-counted beginning given e)
+
+  -- no more steps are made than the largest allowance
+  judged-within : {most : ℕ} {c : Configuration} {st : Step} {n : Next} → madeBy st .steps ≡ suc (c .steps) → c .steps < most → Judged rooms c st n
+      → Within most n
+  judged-within e k (roomToOpen h) = omega arith
+  judged-within e k extended = omega arith
+  judged-within e k (roomToBlock h) = omega arith
+  judged-within e k closed = omega arith
+  judged-within e k found = omega arith
+  judged-within e k emptied = omega arith
+  judged-within e k (noRoomToOpen h) = omega arith
+  judged-within e k (noRoomToBlock h) = omega arith
+
+  advanced-within : {most : ℕ} {given : Given} {c : Configuration} {n : Next} → given .allowance ≤ most → c .steps ≤ most
+      → Advanced S rooms given c n → Within most n
+  advanced-within {given = given} {c = c} l w (tried k j) = judged-within (step-counts S given c) (omega arith) j
+  advanced-within l w (spent k) = w
+
+  call-within : (most : ℕ) (given : Given) (n : Next) → given .allowance ≤ most → Within most n → Within most (advance S rooms given n)
+  unfolding advance
+  call-within most given (goesOn c) l w = advanced-within l w (advanced S rooms given c)
+  call-within most given (ends outcome) l w = w
+
+  begin-within : (most : ℕ) → Within most (begin S)
+  unfolding beginning
+  begin-within most = at (begin-begun S)
+    where
+      at : {n : Next} → Begun S n → Within most n
+      at (answered b) = omega arith
+      at (started b) = omega arith
+
+  pub chain-within : (most : ℕ) (given : List Given) → Each (λ g. g .allowance ≤ most) given → Within most (chain S rooms (begin S) given)
+  chain-within most given low = chain-keeps S rooms (Within most) (λ g. g .allowance ≤ most) (call-within most) (begin S) given low (begin-within most)
+
+  -- calls that are all given the same end a chain at the latest when they are more than their allowance
+  pub chain-ends : (given : Given) → Ended (chain S rooms (begin S) (replicate (suc (given .allowance)) given))
+  chain-ends given = at (chain S rooms (begin S) (replicate (suc (given .allowance)) given)) refl
+      (chain-within (given .allowance) _ (each-same (λ g. g .allowance ≤ given .allowance) given (omega arith) (suc (given .allowance))))
+    where
+      at : (n : Next) → chain S rooms (begin S) (replicate (suc (given .allowance)) given) ≡ n → Within (given .allowance) n → Ended n
+      at (goesOn c) e w = absurd (omega (arith, working-steps _ e, length-replicate (suc (given .allowance)) given))
+      at (ends outcome) e w = record { outcome = outcome; is = refl }
+
+  -- a verdict at the start comes at once
+  begin-decided : (most : ℕ) {outcome : Outcome} → begin S ≡ ends outcome → Decided most outcome
+  unfolding beginning
+  begin-decided most {outcome} = at (begin-begun S)
+    where
+      at : {n : Next} → Begun S n → n ≡ ends outcome → Decided most outcome
+      at (answered b) e = subst (λ (o : Outcome). Decided most o) (ends-once e) (decidedNonempty {c = beginning} (omega arith))
+      at (started b) e = absurd (works-or-ended e)
+
+module _ (S : System) (lawful : Lawful S) (rooms : Rooms) where
+  -- at the beginning
+  pub begin-sure : Sure S rooms (begin S)
+  unfolding beginning
+  begin-sure = at (begin-begun S)
+    where
+      at : {n : Next} → Begun S n → Sure S rooms n
+      at (answered e) = record { right = start-right S e; counted = beginning-counted rooms }
+      at (started e) = let clear = clear-finals S e in record {
+        clear = clear;
+        holds = beginning-holds lawful clear;
+        counted = beginning-counted rooms;
+        bounded = beginning-bounded S;
+      }
+
+  -- after one more call
+  pub call-sure : (given : Given) (n : Next) → Sound S (given .grow) → Sure S rooms n → Sure S rooms (advance S rooms given n)
+  unfolding advance
+  call-sure given (goesOn c) sound w = at (advance S rooms given (goesOn c)) (advanced S rooms given c)
+    where
+      at : (n : Next) → Advanced S rooms given c n → Sure S rooms n
+      at (goesOn d) a = record {
+        clear = w .clear;
+        holds = advanced-right S lawful (w .clear) sound (w .holds) a;
+        counted = advanced-counted a (w .counted);
+        bounded = advanced-bounded lawful sound (w .holds) (w .bounded) a;
+      }
+      at (ends outcome) a = record { right = advanced-right S lawful (w .clear) sound (w .holds) a; counted = advanced-counted a (w .counted) }
+  call-sure given (ends outcome) sound d = d
+
+  -- after a chain of calls
+  chain-sure : (given : List Given) → AllSound S given → Sure S rooms (chain S rooms (begin S) given)
+  chain-sure given sound = chain-keeps S rooms (Sure S rooms) (λ g. Sound S (g .grow)) call-sure (begin S) given sound begin-sure
+
+  pub chain-working : {c : Configuration} (given : List Given) → AllSound S given → chain S rooms (begin S) given ≡ goesOn c → Working S rooms c
+  chain-working given sound e = subst (Sure S rooms) e (chain-sure given sound)
+
+  pub chain-done : {outcome : Outcome} (given : List Given) → AllSound S given → chain S rooms (begin S) given ≡ ends outcome
+      → Done S rooms outcome
+  chain-done given sound e = subst (Sure S rooms) e (chain-sure given sound)
+
+  -- where a call ended a chain, it worked before
+  pub ended-working : {given : List Given} {outcome : Outcome} → AllSound S given → (by : EndingCall S rooms (begin S) given outcome)
+      → Working S rooms (by .at)
+  ended-working sound by =
+      chain-working (by .before)
+      (λ g m. ended-each S rooms (λ x. Sound S (x .grow)) sound by g (in-left (by .last ∷ by .later) m))
+      (by .reached)
+
+  -- with 2^n places in either room and no allowance under 4^(n+1), a chain that works no more has a verdict, after at most 4^(n+1) steps
+  pub chain-decided : 2 ^ S .states ≤ rooms .blockers → 2 ^ S .states ≤ rooms .word → {outcome : Outcome} (given : List Given) → AllSound S given
+      → Each (λ g. 4 ^ suc (S .states) ≤ g .allowance) given → chain S rooms (begin S) given ≡ ends outcome
+      → Decided (4 ^ suc (S .states)) outcome
+  chain-decided places levels {outcome} given sound enough e = at (chain-ended-by S rooms (begin S) given e)
+    where
+      at : (begin S ≡ ends outcome) ⊎ EndingCall S rooms (begin S) given outcome → Decided (4 ^ suc (S .states)) outcome
+      at (inl q) = begin-decided S rooms (4 ^ suc (S .states)) q
+      at (inr by) =
+          let w = ended-working sound by in
+          advanced-decided lawful rooms places levels (w .clear) (ended-last S rooms (λ g. Sound S (g .grow)) sound by)
+          (ended-last S rooms (λ g. 4 ^ suc (S .states) ≤ g .allowance) enough by) (w .holds) (w .bounded) (ended-advanced S rooms by)
+
+-- the calls of another chain grow alike and have the same hints, and no smaller allowance
+pub data Raised : List Given → List Given → Type 0 where
+  raisedNone : Raised [] []
+  raisedMore : {given : Given} {more : ℕ} {later later′ : List Given} → given .allowance ≤ more → Raised later later′
+      → Raised (given ∷ later) (raise more given ∷ later′)
+
+-- what came in smaller rooms with smaller allowances comes in larger ones, unless the smaller ones lack steps or a place
+abbrev Stays : Next → Next → Type 0
+Stays (goesOn d) larger = larger ≡ goesOn d
+Stays (ends outcome) larger = IsVerdict outcome → larger ≡ ends outcome
+
+module _ (S : System) (rooms rooms′ : Rooms) (more-blockers : rooms .blockers ≤ rooms′ .blockers) (more-word : rooms .word ≤ rooms′ .word) where
+  -- larger rooms lack no place that smaller ones have
+  judged-stays : {c : Configuration} {st : Step} {n : Next} → Judged rooms c st n → Stays n (judge rooms′ c st)
+  unfolding judge choose
+  judged-stays {c} (roomToOpen l) = rw (lt-ltb (c .level) (rooms′ .word) (omega arith))
+  judged-stays extended = refl
+  judged-stays (roomToBlock {d = d} l) = rw (le-leb (length (d .table)) (rooms′ .blockers) (omega arith))
+  judged-stays closed = refl
+  judged-stays found = λ v. refl
+  judged-stays emptied = λ v. refl
+  judged-stays (noRoomToOpen l) = λ v. absurd v
+  judged-stays (noRoomToBlock l) = λ v. absurd v
+
+  -- nor does a call with a larger allowance lack steps
+  advanced-stays : (given : Given) (more : ℕ) → given .allowance ≤ more → (c : Configuration) {n : Next} → Advanced S rooms given c n
+      → Stays n (advance S rooms′ (raise more given) (goesOn c))
+  advanced-stays given more l c {n} (tried k j) =
+      subst (λ (m : Next). Stays n m)
+      (sym (advance-made S rooms′ (raise more given) c (omega arith) ∙ ap (judge rooms′ c) (step-raised S more given c))) (judged-stays j)
+  advanced-stays given more l c (spent k) = λ v. absurd v
+
+  call-stays : (given : Given) (more : ℕ) → given .allowance ≤ more → (n larger : Next) → Stays n larger
+      → Stays (advance S rooms given n) (advance S rooms′ (raise more given) larger)
+  unfolding advance
+  call-stays given more l (goesOn c) larger st =
+      subst (λ (m : Next). Stays (advance S rooms given (goesOn c)) (advance S rooms′ (raise more given) m)) (sym st)
+      (advanced-stays given more l c (advanced S rooms given c))
+  call-stays given more l (ends outcome) larger st = λ v. ap (advance S rooms′ (raise more given)) (st v)
+
+  chain-stays : {given given′ : List Given} → Raised given given′ → (n larger : Next) → Stays n larger
+      → Stays (chain S rooms n given) (chain S rooms′ larger given′)
+  unfolding chain
+  chain-stays raisedNone n larger st = st
+  chain-stays (raisedMore {given = given} {more = more} l raised) n larger st =
+      chain-stays raised (advance S rooms given n) (advance S rooms′ (raise more given) larger) (call-stays given more l n larger st)
+
+  stays-same : (n : Next) → Stays n n
+  stays-same (goesOn c) = refl
+  stays-same (ends outcome) = λ v. refl
+
+  -- larger rooms and larger allowances do not change a verdict
+  pub chain-verdict-stays : {given given′ : List Given} {outcome : Outcome} → Raised given given′ → IsVerdict outcome
+      → chain S rooms (begin S) given ≡ ends outcome → chain S rooms′ (begin S) given′ ≡ ends outcome
+  chain-verdict-stays {given} {given′} raised v e =
+      subst (λ (n : Next). Stays n (chain S rooms′ (begin S) given′)) e
+      (chain-stays raised (begin S) (begin S) (stays-same (begin S))) v
+
+-- one chain after another is one chain
+pub chain-joined : (S : System) (rooms : Rooms) (n : Next) (given later : List Given) → chain S rooms n (given ++ later) ≡ chain S rooms (chain S rooms n given) later
+unfolding chain
+chain-joined S rooms n [] later = refl
+chain-joined S rooms n (given ∷ rest) later = chain-joined S rooms (advance S rooms given n) rest later

@@ -1,0 +1,182 @@
+-- A run that has ended keeps the rules by which it is judged, from what holds of its outcome.
+-- Assumes nothing.
+use Prim.Native.Nat.{ℕ, _-_, _≤_}
+use mathlib.Core.Path.{_≡_, refl, sym, ap, subst, _∙_}
+use mathlib.Core.List.{List, [], _++_}
+use native.Mathlib.Nat.{sub-zero}
+use native.Mathlib.Omega.{arith}
+use lib.Dec.{T}
+use lib.ListN.{length, replicate}
+use Rattle.automata.specs.Image.{Valid}
+use Rattle.automata.specs.Automaton.{automatonOf, HoldOne}
+use Rattle.automata.specs.Acceptance.{Accepted}
+use Rattle.machine.specs.System.{System}
+use Rattle.machine.specs.Machine.{ends, comesTo}
+use Rattle.machine.specs.Machine.{Outcome, nonempty, empty, stepsLack, blockersLack, wordLacks}
+use Rattle.machine.specs.Meaning.{Closed}
+use Rattle.machine.specs.Lent.{column, maskOf, levelOf, placed}
+use Rattle.machine.specs.Runs.{Lent, systemOf, roomsOf, numberOf, casesIn, symbolsIn, tablesAfter, resultOf}
+use Rattle.machine.specs.Promises.{heldBy, WordFound, Rules, Agreed}
+use Rattle.machine.proofs.Language.{IsVerdict, Word, accepts, Lawful, Agree, both-nonempty, both-empty, Decided, decidedNonempty, decidedEmpty}
+use Rattle.machine.proofs.Verdicts.{closed-none}
+use Rattle.machine.proofs.Chains.{Done}
+use Rattle.machine.proofs.Agreeing.{right-verdicts-agree}
+use Rattle.machine.proofs.LentTables.{column-whole, placed-whole, read-back}
+use Rattle.machine.proofs.Images.{image-lawful, accepted-by-runs, same-language}
+
+-- the number of an end is that of a verdict or a stop
+pub number-low : (o : Outcome) → numberOf (ends o) ≤ 4
+unfolding numberOf
+number-low (nonempty word c) = omega arith
+number-low (empty c) = omega arith
+number-low (stepsLack c) = omega arith
+number-low (blockersLack c) = omega arith
+number-low (wordLacks c) = omega arith
+
+-- lent tables of a room are equally long
+pub record Even (lent : Lent) : Type 0 where
+  pub levels : length (lent .masks) ≡ length (lent .levels)
+  pub symbols : length (lent .cases) ≡ length (lent .symbols)
+
+module _ (lent : Lent) (even : Even lent) (o : Outcome) (fits : length (comesTo (ends o) .table) ≤ length (lent .masks)) where
+  masks-end : resultOf lent (ends o) .tables .masks ≡ column maskOf (comesTo (ends o) .table) ++ replicate (length (lent .masks) - length (comesTo (ends o) .table)) 0
+  unfolding resultOf tablesAfter
+  masks-end = column-whole maskOf (comesTo (ends o) .table) (length (lent .masks)) (lent .masks) refl fits
+
+  levels-end : resultOf lent (ends o) .tables .levels ≡ column levelOf (comesTo (ends o) .table) ++ replicate (length (lent .levels) - length (comesTo (ends o) .table)) 0
+  unfolding resultOf tablesAfter
+  levels-end = column-whole levelOf (comesTo (ends o) .table) (length (lent .masks)) (lent .levels) (even .levels) (omega (arith, even .levels))
+
+  cases-end : resultOf lent (ends o) .tables .cases ≡ replicate (length (lent .cases)) 0
+  unfolding resultOf tablesAfter casesIn
+  cases-end = placed-whole [] (lent .cases) (omega arith) ∙ ap (λ (n : ℕ). replicate n 0) (sub-zero (length (lent .cases)))
+
+  symbols-end : length (symbolsIn (ends o)) ≤ length (lent .symbols)
+      → resultOf lent (ends o) .tables .symbols ≡ symbolsIn (ends o) ++ replicate (length (lent .symbols) - length (symbolsIn (ends o))) 0
+  unfolding resultOf tablesAfter
+  symbols-end l = ap (λ (k : ℕ). placed k (symbolsIn (ends o)) (lent .symbols)) (even .symbols) ∙ placed-whole (symbolsIn (ends o)) (lent .symbols) l
+
+  result-blockers : resultOf lent (ends o) .blockers ≡ length (comesTo (ends o) .table)
+  unfolding resultOf
+  result-blockers = refl
+
+  -- the blockers that the result counts are those of the configuration
+  held-end : heldBy (resultOf lent (ends o)) ≡ comesTo (ends o) .table
+  held-end =
+      rw (result-blockers, masks-end, levels-end) (read-back (comesTo (ends o) .table) _ _)
+
+  leaves-masks : resultOf lent (ends o) .tables .masks ≡ column maskOf (heldBy (resultOf lent (ends o))) ++ replicate (length (lent .masks) - resultOf lent (ends o) .blockers) 0
+  leaves-masks = masks-end ∙ sym (rw (held-end, result-blockers))
+
+  leaves-levels : resultOf lent (ends o) .tables .levels ≡ column levelOf (heldBy (resultOf lent (ends o))) ++ replicate (length (lent .levels) - resultOf lent (ends o) .blockers) 0
+  leaves-levels = levels-end ∙ sym (rw (held-end, result-blockers))
+
+module _ (image : List ℕ) (lent : Lent) (valid : Valid image) (even : Even lent) where
+  S : System
+  S = systemOf image
+
+  lawful : Lawful (systemOf image)
+  lawful = image-lawful image valid
+
+  means : (word : List ℕ) → Accepted (automatonOf image) word → Word (systemOf image) word × T (accepts (systemOf image) word)
+  means word = accepted-by-runs image valid word .0
+
+  found : (o : Outcome) → Done (systemOf image) (roomsOf lent) o → numberOf (ends o) ≡ 1 → WordFound image lent (resultOf lent (ends o))
+  unfolding numberOf symbolsIn resultOf
+  found (nonempty word c) d e =
+      let right = d .right in
+      let long : length word ≤ length (lent .symbols) = omega (arith, even .symbols, right .long, d .counted .word-fits) in
+      record {
+        word = word;
+        fits = long;
+        stands = symbols-end lent even (nonempty word c) (d .counted .table-fits) long;
+        accepted = accepted-by-runs image valid word .1 (right .shortest .symbols, right .shortest .accepted);
+        long = right .long;
+        shortest = λ other a. let h = means other a in right .shortest .least other (h .0) (h .1);
+      }
+  found (empty c) d e = absurd (omega arith)
+  found (stepsLack c) d e = absurd (omega arith)
+  found (blockersLack c) d e = absurd (omega arith)
+  found (wordLacks c) d e = absurd (omega arith)
+
+  closed-frame : (o : Outcome) → Done (systemOf image) (roomsOf lent) o → numberOf (ends o) ≡ 0 → Closed (systemOf image) (heldBy (resultOf lent (ends o)))
+  unfolding numberOf
+  closed-frame (empty c) d e = subst (Closed (systemOf image)) (sym (held-end lent even (empty c) (d .counted .table-fits))) (d .right)
+  closed-frame (nonempty word c) d e = absurd (omega arith)
+  closed-frame (stepsLack c) d e = absurd (omega arith)
+  closed-frame (blockersLack c) d e = absurd (omega arith)
+  closed-frame (wordLacks c) d e = absurd (omega arith)
+
+  none-accepted : (o : Outcome) → Done (systemOf image) (roomsOf lent) o → numberOf (ends o) ≡ 0 → (word : List ℕ) → Accepted (automatonOf image) word → ⊥
+  none-accepted o d e word a = let h = means word a in closed-none (systemOf image) lawful _ (closed-frame o d e) word (h .0) (h .1)
+
+  wordless : (o : Outcome) → (numberOf (ends o) ≡ 1 → ⊥) → symbolsIn (ends o) ≡ []
+  unfolding numberOf symbolsIn
+  wordless (nonempty word c) n = absurd (n refl)
+  wordless (empty c) n = refl
+  wordless (stepsLack c) n = refl
+  wordless (blockersLack c) n = refl
+  wordless (wordLacks c) n = refl
+
+  leaves-symbols : (o : Outcome) → Done (systemOf image) (roomsOf lent) o → (numberOf (ends o) ≡ 1 → ⊥)
+      → resultOf lent (ends o) .tables .symbols ≡ replicate (length (lent .symbols)) 0
+  leaves-symbols o d n =
+      let w = wordless o n in
+      symbols-end lent even o (d .counted .table-fits) (rw w (omega arith))
+      ∙ rw w (ap (λ (k : ℕ). replicate k 0) (sub-zero (length (lent .symbols))))
+
+  -- every rule
+  pub rules : (o : Outcome) → Done (systemOf image) (roomsOf lent) o → Rules image lent (resultOf lent (ends o))
+  unfolding resultOf
+  rules o d =
+      let fits = d .counted .table-fits in
+      record {
+        nonempty = found o d;
+        empty = none-accepted o d;
+        empty-frame = closed-frame o d;
+        other = number-low o;
+        held-fits = fits;
+        leaves-cases = cases-end lent even o fits;
+        leaves-symbols = leaves-symbols o d;
+        leaves-masks = leaves-masks lent even o fits;
+        leaves-levels = leaves-levels lent even o fits;
+      }
+
+-- an outcome that shows a verdict is one
+verdict-number : (lent : Lent) (o : Outcome) → resultOf lent (ends o) .number ≤ 1 → IsVerdict o
+unfolding resultOf numberOf
+verdict-number lent (empty c) l = tt
+verdict-number lent (nonempty word c) l = tt
+verdict-number lent (stepsLack c) l = omega arith
+verdict-number lent (blockersLack c) l = omega arith
+verdict-number lent (wordLacks c) l = omega arith
+
+module _ (image other : List ℕ) (lent lent′ : Lent) where
+  agreed : {o o′ : Outcome} → Done (systemOf image) (roomsOf lent) o → Done (systemOf other) (roomsOf lent′) o′ → Agree o o′
+      → Agreed (resultOf lent (ends o)) (resultOf lent′ (ends o′))
+  unfolding resultOf numberOf
+  agreed d d′ (both-nonempty e) = record { verdict = refl; words = λ one. sym (d .right .long) ∙ e ∙ d′ .right .long }
+  agreed d d′ both-empty = record { verdict = refl; words = λ one. absurd (omega arith) }
+
+  -- two runs with a verdict agree
+  pub results-agree : Valid image → Valid other → HoldOne image other → {o o′ : Outcome} → Done (systemOf image) (roomsOf lent) o
+      → Done (systemOf other) (roomsOf lent′) o′ → resultOf lent (ends o) .number ≤ 1 → resultOf lent′ (ends o′) .number ≤ 1
+      → Agreed (resultOf lent (ends o)) (resultOf lent′ (ends o′))
+  results-agree valid valid′ same {o} {o′} d d′ v v′ =
+      agreed d d′
+      (right-verdicts-agree (image-lawful image valid) (image-lawful other valid′) (same-language image other same)
+      o o′ (verdict-number lent o v) (verdict-number lent′ o′ v′) (d .right) (d′ .right))
+
+-- a verdict within a bound: that it is one, the number that it shows, and its steps
+pub decided-verdict : {most : ℕ} {o : Outcome} → Decided most o → IsVerdict o
+decided-verdict (decidedNonempty l) = tt
+decided-verdict (decidedEmpty l) = tt
+
+pub decided-number : (lent : Lent) {most : ℕ} {o : Outcome} → Decided most o → resultOf lent (ends o) .number ≤ 1
+unfolding resultOf numberOf
+decided-number lent (decidedNonempty l) = omega arith
+decided-number lent (decidedEmpty l) = omega arith
+
+pub decided-in-time : {most : ℕ} {o : Outcome} → Decided most o → comesTo (ends o) .steps ≤ most
+decided-in-time (decidedNonempty l) = l
+decided-in-time (decidedEmpty l) = l
