@@ -7,15 +7,16 @@ use native.Mathlib.Omega.{arith}
 use borrow.Author.Tests.{lt-ltb, le-ltb}
 use Rattle.lists.specs.Tests.{choose}
 use Rattle.automata.specs.declared.image.Head.{Head}
-use Rattle.machine.specs.Machine.{Pending, Configuration, openStep, closeStep, stepOn, step, Step, stepsLack, judge, advance}
+use Rattle.machine.specs.Machine.{Pending, Configuration, openStep, stepOn, step, Step, stepsLack, judge, advance}
 use Rattle.machine.specs.Lent.{pendingFirst}
 use Rattle.machine.specs.Runs.{systemOf, givenOf, roomsOf, numberOf, symbolsIn}
 use Rattle.machine.specs.Records.{Stage, configurationOf, after, stepOf}
 use Rattle.machine.proofs.Steps.{step-raised}
 use Rattle.choices.specs.Found.{ReadAs}
 use Rattle.checker.specs.declared.record.Run.{Run}
-use Rattle.checker.specs.Stage.{stage, termsOf, hintsOf, madeBy, Ready, leftOf, Leaves}
+use Rattle.checker.specs.Stage.{stage, termsOf, hintsOf, madeBy, Ready, leftOf, Leaves, ClosesLevel}
 use Rattle.checker.proofs.Stages.{stopped-is}
+use Rattle.checker.proofs.Closing.{close-is}
 
 module _ {image : List ℕ} {head : Head} {masks levels cases symbols : List ℕ} {run : Run} (read : ReadAs image head)
     (ready : Ready (stage masks levels cases symbols run)) (hints : List ℕ) (allowance : ℕ) where
@@ -60,10 +61,10 @@ module _ {image : List ℕ} {head : Head} {masks levels cases symbols : List ℕ
           (sym (on isOpen e))
           ∙ step-is
 
-      pub step-closes : {later : Stage} → run .opened ≡ true → later ≡ madeBy (closeStep (systemOf image)) (stage masks levels cases symbols run)
-          → later ≡ stepOf image (termsOf hints allowance) (stage masks levels cases symbols run)
+      pub step-closes : {masks′ levels′ : List ℕ} {r : Run} → run .opened ≡ true → ClosesLevel (systemOf image) run r masks levels masks′ levels′
+          → stage masks′ levels′ cases symbols r ≡ stepOf image (termsOf hints allowance) (stage masks levels cases symbols run)
       unfolding stepOn madeBy
-      step-closes e made = made ∙ made-on true e
+      step-closes e closes = let none : run .pending ≡ 0 = omega arith in close-is none closes ∙ made-on true e
 
       pub step-opens : {later : Stage} → run .opened ≡ false → later ≡ madeBy (openStep (head .initial) (head .finals ∷ [])) (stage masks levels cases symbols run)
           → later ≡ stepOf image (termsOf hints allowance) (stage masks levels cases symbols run)

@@ -4,11 +4,15 @@ use mathlib.Core.Path.{_≡_}
 use mathlib.Core.Bool.{Bool, true, false}
 use mathlib.Core.List.{List, [], _∷_}
 use lib.ListN.{length}
+use Rattle.lists.specs.Tests.{choose}
 use Rattle.automata.specs.Image.{initialOf, finalOf}
+use Rattle.machine.specs.System.{System}
 use Rattle.machine.specs.Machine.{Pending, Configuration, Step, judge, wordOf, blockStep, chosen}
 use Rattle.machine.specs.Lent.{columnBack, caseOf, symbolOf, placed}
 use Rattle.machine.specs.Runs.{Lent, Terms, systemOf, roomsOf, givenOf}
 use Rattle.machine.specs.Records.{RunRecord, Stage, configurationOf, after}
+use Rattle.blockers.specs.Room.{tableOf, Placed}
+use Rattle.closing.specs.Close.{isEmpty, emptyLevel, closedBy}
 use Rattle.checker.specs.declared.record.Run.{Run}
 
 abbrev pub lentOf : List ℕ → List ℕ → List ℕ → List ℕ → Lent
@@ -97,6 +101,25 @@ blockedOf run held pending hinted = record {
   blocks = run .blocks + 1;
   accepted = run .accepted + hinted;
 }
+
+-- the record after a close that left `held` blockers
+abbrev pub closedOf : Run → ℕ → ℕ → Run
+closedOf run answer held = record {
+  answer = answer;
+  steps = run .steps + 1;
+  level = run .level;
+  opened = false;
+  held = held;
+  pending = 0;
+  blocks = run .blocks;
+  accepted = run .accepted;
+}
+
+-- the close of the run's level: it works on or ends with the frame, and the blockers that stay stand in place of those that were held
+pub record ClosesLevel (S : System) (run r : Run) (masks levels masks′ levels′ : List ℕ) : Type 0 where
+  pub record-is : r ≡ closedOf run (choose (isEmpty (emptyLevel S (run .level .0) (tableOf (run .held) masks levels))) 0 6)
+      (length (closedBy S (run .level .0) (tableOf (run .held) masks levels)))
+  pub tables : Placed (run .held) (closedBy S (run .level .0) (tableOf (run .held) masks levels)) masks levels masks′ levels′
 
 -- the record became this one, and these cases and symbols stand in place of those that were pending
 pub record Leaves (run became : Run) (new-cases new-symbols : List ℕ) (r : Run) (cases symbols cases′ symbols′ : List ℕ) : Type 0 where

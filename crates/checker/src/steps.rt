@@ -12,14 +12,14 @@ ghost use mathlib.Core.List.{[], _∷_};
 ghost use Prim.Native.Nat.{_+_, _-_, _≤_, _<_};
 ghost use Rattle.lists.specs.Tests.{choose};
 ghost use Rattle.masks.specs.Sets.{subset as isSubset};
-ghost use Rattle.machine.specs.Machine.{finalPending, pendingAfter, openStep, blockStep, wordOf, step as machineStep, closeStep};
+ghost use Rattle.machine.specs.Machine.{finalPending, pendingAfter, openStep, blockStep, wordOf, step as machineStep};
 ghost use Rattle.machine.specs.Lent.{blockersFrom, blockersIn, pendingFirst};
 ghost use Rattle.machine.specs.Runs.{systemOf, givenOf};
 ghost use Rattle.machine.specs.Records.{stepOf};
 ghost use Rattle.blockers.specs.Room.{Holds};
 ghost use Rattle.choices.specs.Found.{ReadAs, choiceOf};
 ghost use Rattle.pending.specs.Room.{Holds as HoldsWord};
-ghost use Rattle.checker.specs.Stage.{stage, termsOf, hintsOf, madeBy, blockOf, Ready, leftOf, countedOf, Leaves, LeavesPending, Unpends, Extended, Pends, Countable};
+ghost use Rattle.checker.specs.Stage.{stage, termsOf, hintsOf, madeBy, blockOf, Ready, leftOf, countedOf, Leaves, LeavesPending, Unpends, Extended, ClosesLevel, Pends, Countable};
 
 // The run ends without a verdict, under the number of what it lacks: nothing stays pending.
 fn stop(cases: &mut [u64], symbols: &mut [u8], run: Run, number: u8) -> Run
@@ -280,18 +280,9 @@ fn working_unless(empty: bool) -> u8
 }
 
 // Close: blockers rise, and where a level then holds none the run ends with the frame. Nothing is pending.
-fn close_level(
-    image: &[u8],
-    head: Head,
-    masks: &mut [u64],
-    levels: &mut [u32],
-    cases: &[u64],
-    symbols: &[u8],
-    run: Run,
-) -> Run
-    requires { ⌜ ReadAs (now image) head × Ready (stage (now masks) (now levels) (now cases) (now symbols) run) × (run .pending ≡ 0) × (run .steps < 18446744073709551615) ⌝ }
-    ensures { λ r. ⌜ stage (now (masks .exit)) (now (levels .exit)) (now (cases .entry)) (now (symbols .entry)) r
-        ≡ madeBy (closeStep (systemOf (now (image .entry)))) (stage (now (masks .entry)) (now (levels .entry)) (now (cases .entry)) (now (symbols .entry)) run) ⌝ }
+fn close_level(image: &[u8], head: Head, masks: &mut [u64], levels: &mut [u32], run: Run) -> Run
+    requires { ⌜ ReadAs (now image) head × Holds (run .held) (now masks) (now levels) × (run .level .0 < 4294967295) × (run .steps < 18446744073709551615) ⌝ }
+    ensures { λ r. ⌜ ClosesLevel (systemOf (now (image .entry))) run r (now (masks .entry)) (now (levels .entry)) (now (masks .exit)) (now (levels .exit)) ⌝ }
 {
     let level = run.level;
     let closed = closing::close(image, head, masks, levels, run.held, level);
@@ -325,7 +316,7 @@ pub(crate) fn step(
         return work(image, head, masks, levels, cases, symbols, hints, run);
     }
     if run.opened {
-        return close_level(image, head, masks, levels, cases, symbols, run);
+        return close_level(image, head, masks, levels, run);
     }
     open_level(head, masks, levels, cases, symbols, run)
 }

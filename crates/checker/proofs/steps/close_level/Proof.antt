@@ -1,5 +1,4 @@
-use Rattle.checker.proofs.Stages.{ready-holds}
-use Rattle.checker.proofs.Closing.{level-small, close-is}
+use Rattle.checker.proofs.Closing.{close-leaves}
 use borrow.Author.Needs.{needs}
 use Rattle.checker.proofs.steps.close_level.Statement.{statement}
 use Rattle.checker.proofs.steps.close_level.Tie as tie
@@ -9,29 +8,29 @@ use Rattle.checker.proofs.record.Run.counted.Reads as counted-reads
 use Rattle.checker.proofs.steps.working_unless.Reads as working-unless-reads
 use Rattle.closing.proofs.close.Reads as close-reads
 
--- src/steps.rt:299:9
+-- src/steps.rt:288:9
 close-requires : tie.Need-close-requires
-close-requires c κs = (search needs, search (ready-holds, needs), search (level-small, needs))
+close-requires c κs = search needs
 
--- src/steps.rt:300:33
+-- src/steps.rt:289:33
 working-unless-requires : tie.Need-working-unless-requires
 working-unless-requires c κs = search needs
 
--- src/steps.rt:300:9
+-- src/steps.rt:289:9
 counted-requires : tie.Need-counted-requires
 counted-requires c κs = search needs
 
--- src/steps.rt:285:1
+-- src/steps.rt:283:1
 same-length : tie.Need-same-length
 same-length c = search needs
 
--- src/steps.rt:285:1
+-- src/steps.rt:283:1
 same-length-2 : tie.Need-same-length-2
 same-length-2 c = search needs
 
--- src/steps.rt:285:1
+-- src/steps.rt:283:1
 returns : tie.Need-returns
-returns c = search (close-is, needs)
+returns c = search (close-leaves, needs)
 
 pub close-level-spec : {M : Type 1} → statement M
 close-level-spec =
