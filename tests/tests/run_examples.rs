@@ -23,14 +23,19 @@ const PROGRAM: Terms = Terms {
     allowance: 100_000,
 };
 
+impl Terms<'_> {
+    fn lent(self) -> Lent {
+        Lent {
+            before: Tables::filled(&mut Random::seeded(1), self.blocker_room, self.word_room),
+            hints: self.hints.to_vec(),
+            allowance: self.allowance,
+        }
+    }
+}
+
 /// The five numbers, the entries as masks and levels, and the word; all other places are 0.
 fn expect(model: &Model, terms: Terms, numbers: [u64; 5], entries: &[(u64, u32)], word: &[u8]) {
-    let lent = Lent {
-        before: Tables::filled(&mut Random::seeded(1), terms.blocker_room, terms.word_room),
-        hints: terms.hints.to_vec(),
-        allowance: terms.allowance,
-    };
-    let (answer, after) = Comparison::default().run(&model.image(), &lent, model);
+    let (answer, after) = Comparison::default().run(&model.image(), &terms.lent(), model);
     assert_eq!(answer, Answer::of_numbers(numbers), "{model}");
     let mut expected = Tables::cleared(terms.blocker_room, terms.word_room);
     for (place, &(mask, level)) in entries.iter().enumerate() {
@@ -43,11 +48,7 @@ fn expect(model: &Model, terms: Terms, numbers: [u64; 5], entries: &[(u64, u32)]
 
 /// The number and four zeros, and every place as it was.
 fn expect_refused(image: &[u8], terms: Terms, number: u64) {
-    let lent = Lent {
-        before: Tables::filled(&mut Random::seeded(2), terms.blocker_room, terms.word_room),
-        hints: terms.hints.to_vec(),
-        allowance: terms.allowance,
-    };
+    let lent = terms.lent();
     let origin = format!("expected to give {number}");
     let (answer, after) = Comparison::default().run(image, &lent, &origin);
     assert_eq!(answer, Answer::of_numbers([number, 0, 0, 0, 0]));
@@ -70,30 +71,25 @@ fn a() {
 
 #[test]
 fn a_stops() {
-    let (a, program) = (model_a(), PROGRAM);
-    let allowed = |allowance| Terms {
-        allowance,
-        ..program
-    };
-    expect(&a, allowed(0), [2, 0, 0, 0, 0], &[], &[]);
-    expect(&a, allowed(1), [2, 1, 1, 0, 0], &[], &[]);
-    expect(&a, allowed(2), [2, 2, 1, 1, 0], &[(4, 1)], &[]);
-    let no_blockers = |allowance| Terms {
-        blocker_room: 0,
-        allowance,
-        ..program
-    };
-    expect(&a, no_blockers(100_000), [3, 1, 1, 0, 0], &[], &[]);
-    expect(&a, no_blockers(2), [3, 1, 1, 0, 0], &[], &[]);
-    expect(&a, no_blockers(1), [2, 1, 1, 0, 0], &[], &[]);
-    let no_word = |allowance| Terms {
-        word_room: 0,
-        allowance,
-        ..program
-    };
-    expect(&a, no_word(100_000), [4, 0, 0, 0, 0], &[], &[]);
-    expect(&a, no_word(1), [4, 0, 0, 0, 0], &[], &[]);
-    expect(&a, no_word(0), [2, 0, 0, 0, 0], &[], &[]);
+    for (blocker_room, word_room, allowance, numbers, blockers) in [
+        (256, 256, 0, [2, 0, 0, 0, 0], &[][..]),
+        (256, 256, 1, [2, 1, 1, 0, 0], &[]),
+        (256, 256, 2, [2, 2, 1, 1, 0], &[(4, 1)]),
+        (0, 256, 100_000, [3, 1, 1, 0, 0], &[]),
+        (0, 256, 2, [3, 1, 1, 0, 0], &[]),
+        (0, 256, 1, [2, 1, 1, 0, 0], &[]),
+        (256, 0, 100_000, [4, 0, 0, 0, 0], &[]),
+        (256, 0, 1, [4, 0, 0, 0, 0], &[]),
+        (256, 0, 0, [2, 0, 0, 0, 0], &[]),
+    ] {
+        let terms = Terms {
+            blocker_room,
+            word_room,
+            allowance,
+            ..PROGRAM
+        };
+        expect(&model_a(), terms, numbers, blockers, &[]);
+    }
 }
 
 #[test]

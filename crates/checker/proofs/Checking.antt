@@ -1,12 +1,11 @@
 -- A run for every input: its checks, the clearing before it, and its result. Assumes nothing.
-use Prim.Native.Nat.{ℕ, zero, suc, _+_, _-_, _≤_, _<_, max}
+use Prim.Native.Nat.{ℕ, zero, suc, _-_, _≤_, _<_}
 use mathlib.Core.Path.{_≡_, refl, sym, ap, ap₂, _∙_}
-use mathlib.Core.List.{List, [], _++_, append-nil}
-use native.Mathlib.Nat.{sub-zero}
+use mathlib.Core.List.{List, _++_}
 use native.Mathlib.Omega.{arith}
 use borrow.Author.Tests.{eq-eqb, ne-eqb, lt-ltb, le-ltb, ltb-false}
 use lib.Dec.{eqb, eqb→eq}
-use lib.ListN.{length, replicate, length-replicate, drop-of-length-le}
+use lib.ListN.{length, replicate, length-replicate}
 use Rattle.lists.specs.Tests.{_or_, neg}
 use Rattle.lists.proofs.Tests.{is-false, or-left, or-right, neg-neg}
 use Rattle.automata.specs.Image.{check, checkImage}
@@ -17,7 +16,8 @@ use Rattle.automata.specs.declared.image.Image.the-variants as Answer
 use Rattle.automata.proofs.WordTests.{answer-valid, answer-head}
 use Rattle.machine.specs.Machine.{Next, comesTo}
 use Rattle.machine.specs.Lent.{column, maskOf, levelOf, placed}
-use Rattle.machine.specs.Runs.{Lent, Result, roomsOf, refused, casesIn, symbolsIn, tablesAfter, resultOf, oddRooms, oversize, checkRooms, checkRun, endOf, runWith, runOf}
+use Rattle.machine.specs.Runs.{Result, roomsOf, refused, casesIn, symbolsIn, tablesAfter, resultOf, oddRooms, oversize, checkRooms, checkRun, endOf, runWith, runOf}
+use Rattle.machine.proofs.LentTables.{placed-whole}
 use Rattle.machine.proofs.RunsKept.{check-fails}
 use Rattle.checker.specs.declared.run.Counts.{Counts}
 use Rattle.checker.specs.Stage.{lentOf, termsOf}
@@ -25,53 +25,44 @@ use Rattle.checker.specs.Whole.{Checked, Cleared, Runnable, resultWith, 
 
 -- the rooms' checks, each from the tests before it
 module _ (masks levels cases symbols hints : List ℕ) where
-  pub odd-blockers : (length masks ≡ length levels → ⊥) → 30 ≡ checkRooms (lentOf masks levels cases symbols) (termsOf hints 0) 0
+  pub odd-blockers : (length masks ≡ length levels → ⊥) → 30 ≡ checkRooms (lentOf masks levels cases symbols) hints 0
   unfolding checkRooms check oddRooms _or_ neg
   odd-blockers n = rw (ne-eqb _ _ n)
 
   module _ (even : length masks ≡ length levels) where
-    pub odd-word : (length cases ≡ length symbols → ⊥) → 30 ≡ checkRooms (lentOf masks levels cases symbols) (termsOf hints 0) 0
+    pub odd-word : (length cases ≡ length symbols → ⊥) → 30 ≡ checkRooms (lentOf masks levels cases symbols) hints 0
     unfolding checkRooms check oddRooms _or_ neg
     odd-word n = rw (eq-eqb _ _ even, ne-eqb _ _ n)
 
     module _ (even-word : length cases ≡ length symbols) where
-      pub over-blockers : 65536 < length masks → 31 ≡ checkRooms (lentOf masks levels cases symbols) (termsOf hints 0) 0
+      pub over-blockers : 65536 < length masks → 31 ≡ checkRooms (lentOf masks levels cases symbols) hints 0
       unfolding checkRooms check oddRooms oversize _or_ neg
       over-blockers l = rw (eq-eqb _ _ even, eq-eqb _ _ even-word, lt-ltb _ _ l)
 
       module _ (few : length masks ≤ 65536) where
-        pub over-word : 65536 < length cases → 31 ≡ checkRooms (lentOf masks levels cases symbols) (termsOf hints 0) 0
+        pub over-word : 65536 < length cases → 31 ≡ checkRooms (lentOf masks levels cases symbols) hints 0
         unfolding checkRooms check oddRooms oversize _or_ neg
         over-word l = rw (eq-eqb _ _ even, eq-eqb _ _ even-word, le-ltb _ _ few, lt-ltb _ _ l)
 
         module _ (few-word : length cases ≤ 65536) where
-          pub over-hints : 65536 < length hints → 31 ≡ checkRooms (lentOf masks levels cases symbols) (termsOf hints 0) 0
+          pub over-hints : 65536 < length hints → 31 ≡ checkRooms (lentOf masks levels cases symbols) hints 0
           unfolding checkRooms check oddRooms oversize _or_ neg
           over-hints l = rw (eq-eqb _ _ even, eq-eqb _ _ even-word, le-ltb _ _ few, le-ltb _ _ few-word, lt-ltb _ _ l)
 
-          pub rooms-pass : length hints ≤ 65536 → 0 ≡ checkRooms (lentOf masks levels cases symbols) (termsOf hints 0) 0
+          pub rooms-pass : length hints ≤ 65536 → 0 ≡ checkRooms (lentOf masks levels cases symbols) hints 0
           unfolding checkRooms check oddRooms oversize _or_ neg
           rooms-pass l = rw (eq-eqb _ _ even, eq-eqb _ _ even-word, le-ltb _ _ few, le-ltb _ _ few-word, le-ltb _ _ l)
 
--- in place of a whole table: only its length matters
-placed-all : (new before : List ℕ) → placed (length before) new before ≡ new ++ replicate (length before - length new) 0
-unfolding placed
-placed-all new before =
-    let m : length before ≤ max (length before) (length new) = omega arith in
-    rw (drop-of-length-le before m, append-nil)
+-- a table of which every place was cleared
+zeros-length : (before after : List ℕ) → after ≡ replicate (length before) 0 → length after ≡ length before
+zeros-length before after e = ap length e ∙ length-replicate (length before) 0
 
-zeros : (before : List ℕ) → placed (length before) [] before ≡ replicate (length before) 0
-zeros before = placed-all [] before ∙ ap (λ (k : ℕ). replicate k 0) (sub-zero (length before))
+zeros-again : (before after : List ℕ) → after ≡ replicate (length before) 0 → after ≡ replicate (length after) 0
+zeros-again before after e = e ∙ ap (λ (k : ℕ). replicate k 0) (sym (zeros-length before after e))
 
-zeros-length : (before after : List ℕ) → after ≡ placed (length before) [] before → length after ≡ length before
-zeros-length before after e = ap length (e ∙ zeros before) ∙ length-replicate (length before) 0
-
-zeros-again : (before after : List ℕ) → after ≡ placed (length before) [] before → after ≡ placed (length after) [] after
-zeros-again before after e = e ∙ zeros before ∙ ap (λ (k : ℕ). replicate k 0) (sym (zeros-length before after e)) ∙ sym (zeros after)
-
-placed-zeros : (before after new : List ℕ) → after ≡ placed (length before) [] before → placed (length after) new after ≡ placed (length before) new before
+placed-zeros : (before after new : List ℕ) → after ≡ replicate (length before) 0 → placed (length after) new after ≡ placed (length before) new before
 placed-zeros before after new e =
-    placed-all new after ∙ ap (λ (k : ℕ). new ++ replicate (k - length new) 0) (zeros-length before after e) ∙ sym (placed-all new before)
+    placed-whole new after ∙ ap (λ (k : ℕ). new ++ replicate (k - length new) 0) (zeros-length before after e) ∙ sym (placed-whole new before)
 
 module _ {image : List ℕ} {head : Head} {masks levels cases symbols masks′ levels′ cases′ symbols′ : List ℕ}
     (runnable : Runnable image head masks levels cases symbols) (cleared : Cleared masks levels cases symbols masks′ levels′ cases′ symbols′) where
@@ -96,7 +87,7 @@ module _ {image : List ℕ} {head : Head} {masks levels cases symbols masks′ l
       }
 
   -- the result in the cleared tables is the result in those that were lent
-  other-places : (size size′ : ℕ) (before after new : List ℕ) → size ≡ length before → size′ ≡ length after → after ≡ placed (length before) [] before
+  other-places : (size size′ : ℕ) (before after new : List ℕ) → size ≡ length before → size′ ≡ length after → after ≡ replicate (length before) 0
       → placed size′ new after ≡ placed size new before
   other-places size size′ before after new e e′ z =
       ap (λ (k : ℕ). placed k new after) e′ ∙ placed-zeros before after new z ∙ ap (λ (k : ℕ). placed k new before) (sym e)
@@ -124,8 +115,8 @@ module _ {image : List ℕ} {head : Head} {masks levels cases symbols masks′ l
       ∙ ap₂ (λ (b w : ℕ). resultOf (lentOf masks levels cases symbols) (endOf image (record { blockers = b; word = w }) (termsOf hints allowance)))
       (zeros-length masks masks′ (cleared .new-masks)) (zeros-length cases cases′ (cleared .new-cases))
 
--- what the rooms' checks leave where none applies; they do not look at the allowance
-rooms-checked : (masks levels cases symbols hints : List ℕ) → checkRooms (lentOf masks levels cases symbols) (termsOf hints 0) 0 ≡ 0 → Checked masks levels cases symbols
+-- what the rooms' checks leave where none applies
+rooms-checked : (masks levels cases symbols hints : List ℕ) → checkRooms (lentOf masks levels cases symbols) hints 0 ≡ 0 → Checked masks levels cases symbols
 unfolding checkRooms oddRooms oversize
 rooms-checked masks levels cases symbols hints e =
     let odd = check-fails _ _ _ e in
@@ -136,13 +127,9 @@ rooms-checked masks levels cases symbols hints e =
       few-places = ltb-false 65536 (length cases) (is-false _ (λ t. over .0 (or-right _ _ (or-left _ _ t))));
     }
 
-any-allowance : (lent : Lent) (hints : List ℕ) (allowance : ℕ) → checkRooms lent (termsOf hints allowance) 0 ≡ checkRooms lent (termsOf hints 0) 0
-unfolding checkRooms
-any-allowance lent hints allowance = refl
-
 -- a valid image and rooms that pass their checks
 pub run-runnable : (image masks levels cases symbols hints : List ℕ) (answer : Image) → answer ≡ readImage image → (head : Head) → answer ≡ Answer.Valid head
-    → (number : ℕ) → number ≡ checkRooms (lentOf masks levels cases symbols) (termsOf hints 0) 0 → number ≡ 0 → Runnable image head masks levels cases symbols
+    → (number : ℕ) → number ≡ checkRooms (lentOf masks levels cases symbols) hints 0 → number ≡ 0 → Runnable image head masks levels cases symbols
 run-runnable image masks levels cases symbols hints answer read head e number rooms z =
     record {
       image-read = record { valid = answer-valid image answer read head e; read = answer-head image answer read head e };
@@ -174,12 +161,10 @@ module _ (image masks levels cases symbols hints : List ℕ) (allowance : ℕ) (
           ap (λ (x : Counts). resultWith x masks levels cases symbols) q
           ∙ refused-result number (λ none. omega (arith, z)) (rw c z)
 
-  module _ (head : Head) (e : answer ≡ Answer.Valid head) (number : ℕ) (rooms : number ≡ checkRooms (lentOf masks levels cases symbols) (termsOf hints 0) 0) where
+  module _ (head : Head) (e : answer ≡ Answer.Valid head) (number : ℕ) (rooms : number ≡ checkRooms (lentOf masks levels cases symbols) hints 0) where
     checked-is : checkRun image (lentOf masks levels cases symbols) (termsOf hints allowance) ≡ number
     unfolding checkRun
-    checked-is =
-        ap (checkRooms (lentOf masks levels cases symbols) (termsOf hints allowance)) (answer-valid image answer read head e)
-        ∙ any-allowance (lentOf masks levels cases symbols) hints allowance ∙ sym rooms
+    checked-is = ap (checkRooms (lentOf masks levels cases symbols) hints) (answer-valid image answer read head e) ∙ sym rooms
 
     pub run-refuses-rooms : (r : Counts) → (number ≡ 0 → ⊥) → r ≡ refusal number
         → resultWith r masks levels cases symbols ≡ runOf image (lentOf masks levels cases symbols) (termsOf hints allowance)

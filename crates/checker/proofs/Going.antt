@@ -21,6 +21,7 @@ use Rattle.machine.proofs.Steps.{Advanced, tried, advanced, advanced-counts}
 use Rattle.machine.proofs.Chains.{Working, chain-working, each-same}
 use Rattle.machine.proofs.Driving.{one-call-more, calls-counted, calls-suffice}
 use Rattle.machine.proofs.Invariant.{chain-length}
+use Rattle.machine.proofs.LentTables.{placed-none}
 use Rattle.machine.proofs.Images.{image-lawful}
 use Rattle.machine.proofs.Judging.{Even, number-low}
 use Rattle.machine.proofs.Language.{Sound}
@@ -152,13 +153,25 @@ module _ (image : List ℕ) (lent : Lent) (terms : Terms) where
   -- the beginning: all places 0, and the start's record, by whether I is a subset of F
   module _ (even : Even lent) {masks′ levels′ cases′ symbols′ : List ℕ}
       (cleared : Cleared (lent .masks) (lent .levels) (lent .cases) (lent .symbols) masks′ levels′ cases′ symbols′) where
+    emptied : lentOf masks′ levels′ cases′ symbols′ ≡ tablesAfter (length (lent .masks)) (length (lent .cases)) lent (goesOn beginning)
+    unfolding tablesAfter casesIn symbolsIn column columnBack beginning
+    emptied =
+        rw (
+          cleared .new-masks ∙ sym (placed-none (lent .masks)),
+          cleared .new-levels ∙ sym (placed-none (lent .levels)),
+          cleared .new-cases ∙ sym (placed-none (lent .cases)),
+          cleared .new-symbols ∙ sym (placed-none (lent .symbols)),
+          ← even .levels,
+          ← even .symbols,
+        )
+
     start-shown : (b : Bool)
         → stage masks′ levels′ cases′ symbols′
         (record { answer = choose b 1 6; steps = 0; level = record { 0 = 0 }; opened = false; held = 0; pending = 0; blocks = 0; accepted = 0 })
         ≡ shown lent (choose b (ends (nonempty [] beginning)) (goesOn beginning))
     unfolding recordOf numberOf pendingOf tablesAfter casesIn symbolsIn column columnBack beginning choose
-    start-shown true = rw (cleared .new-masks, cleared .new-levels, cleared .new-cases, cleared .new-symbols, ← even .levels, ← even .symbols)
-    start-shown false = rw (cleared .new-masks, cleared .new-levels, cleared .new-cases, cleared .new-symbols, ← even .levels, ← even .symbols)
+    start-shown true = ap (λ (tables : Lent). record { tables = tables; run = recordOf (ends (nonempty [] beginning)) }) emptied
+    start-shown false = ap (λ (tables : Lent). record { tables = tables; run = recordOf (goesOn beginning) }) emptied
 
     pub going-starts : (head : Head) → ReadAs image head → {run : Run} → run ≡ startRecord (head .initial) (head .finals)
         → Going (stage masks′ levels′ cases′ symbols′ run)

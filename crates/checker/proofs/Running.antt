@@ -1,14 +1,15 @@
 -- A whole run: what it begins with, that each step leads on to the machine's outcome, and what stands at its end. Assumes nothing.
-use Prim.Native.Nat.{ℕ, _+_, _-_, max}
+use Prim.Native.Nat.{ℕ, _-_, _≤_}
 use mathlib.Core.Path.{_≡_, ap, _∙_}
 use mathlib.Core.Bool.{Bool, true, false}
-use mathlib.Core.List.{List, [], _++_}
+use mathlib.Core.List.{List, [], _++_, append-nil}
 use native.Mathlib.Nat.{sub-zero}
 use native.Mathlib.Omega.{arith}
-use lib.ListN.{length, take, replicate, length-replicate}
+use lib.ListN.{length, take, replicate, length-replicate, drop-of-length-le}
 use Rattle.lists.specs.Tests.{choose}
 use Rattle.masks.specs.Sets.{subset}
 use Rattle.machine.specs.Lent.{columnBack, placed}
+use Rattle.machine.proofs.LentTables.{placed-none}
 use Rattle.blockers.specs.Room.{over}
 use Rattle.blockers.specs.Room as Room
 use Rattle.pending.specs.Room.{Placed as PlacedWord}
@@ -26,11 +27,11 @@ unfolding startRecord choose
 start-works initial finals b e t = rw (← e, t)
 
 -- a table of which every place was cleared
-all-cleared : (before : List ℕ) → over (take 0 before ++ replicate (length before - 0) 0) before ≡ placed (length before) [] before
-unfolding over placed
+all-cleared : (before : List ℕ) → over (take 0 before ++ replicate (length before - 0) 0) before ≡ replicate (length before) 0
+unfolding over
 all-cleared before =
-    let most : max (length before) 0 ≡ length before = omega arith in
-    rw (length-replicate, sub-zero, most)
+    let whole : length before ≤ length before = omega arith in
+    rw (length-replicate, sub-zero, drop-of-length-le before whole, append-nil)
 
 pub cleared-is : {masks levels cases symbols masks′ levels′ cases′ symbols′ : List ℕ} → Checked masks levels cases symbols
     → Room.Cleared 0 (length masks) masks levels masks′ levels′ → PlacedWord (length cases) [] cases symbols cases′ symbols′
@@ -40,6 +41,6 @@ cleared-is {masks} {levels} {cases} {symbols} checked blockers word =
     record {
       new-masks = blockers .new-masks ∙ all-cleared masks;
       new-levels = blockers .new-levels ∙ ap (λ (k : ℕ). over (take 0 levels ++ replicate (k - 0) 0) levels) (checked .blocker-room) ∙ all-cleared levels;
-      new-cases = word .new-cases;
-      new-symbols = word .new-symbols ∙ ap (λ (k : ℕ). placed k [] symbols) (checked .word-room);
+      new-cases = word .new-cases ∙ placed-none cases;
+      new-symbols = word .new-symbols ∙ ap (λ (k : ℕ). placed k [] symbols) (checked .word-room) ∙ placed-none symbols;
     }

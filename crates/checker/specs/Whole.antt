@@ -2,12 +2,11 @@
 use Prim.Native.Nat.{ℕ, _≤_}
 use mathlib.Core.Path.{_≡_}
 use mathlib.Core.Bool.{false}
-use mathlib.Core.List.{List, []}
-use lib.ListN.{length}
+use mathlib.Core.List.{List}
+use lib.ListN.{length, replicate}
 use Rattle.lists.specs.Tests.{choose}
 use Rattle.masks.specs.Sets.{subset}
 use Rattle.automata.specs.declared.image.Head.{Head}
-use Rattle.machine.specs.Lent.{placed}
 use Rattle.machine.specs.Runs.{Lent, Terms, Result, roomsOf, resultOf, endOf}
 use Rattle.choices.specs.Found.{ReadAs}
 use Rattle.checker.specs.Stage.{lentOf}
@@ -43,10 +42,10 @@ pub record Checked (masks levels cases symbols : List ℕ) : Type 0 where
 
 -- every place holds 0
 pub record Cleared (masks levels cases symbols masks′ levels′ cases′ symbols′ : List ℕ) : Type 0 where
-  pub new-masks : masks′ ≡ placed (length masks) [] masks
-  pub new-levels : levels′ ≡ placed (length levels) [] levels
-  pub new-cases : cases′ ≡ placed (length cases) [] cases
-  pub new-symbols : symbols′ ≡ placed (length symbols) [] symbols
+  pub new-masks : masks′ ≡ replicate (length masks) 0
+  pub new-levels : levels′ ≡ replicate (length levels) 0
+  pub new-cases : cases′ ≡ replicate (length cases) 0
+  pub new-symbols : symbols′ ≡ replicate (length symbols) 0
 
 -- "Start: if I is a subset of F, answer 1 with the empty word and 0 steps. Otherwise steps follow", with the level 0, no blockers and nothing pending
 unfoldable pub startRecord : ℕ → ℕ → Run

@@ -62,7 +62,7 @@ fn clear(masks: &mut [u64], levels: &mut [u32], cases: &mut [u64], symbols: &mut
 
 // 0, or 30 where the two tables of one room differ in length, or 31 where a room or the hint table has over 65,536 places.
 fn check_rooms(masks: &[u64], levels: &[u32], cases: &[u64], symbols: &[u8], hints: &[u64]) -> u64
-    ensures { λ r. ⌜ r ≡ checkRooms (lentOf (now (masks .entry)) (now (levels .entry)) (now (cases .entry)) (now (symbols .entry))) (termsOf (now (hints .entry)) 0) 0 ⌝ }
+    ensures { λ r. ⌜ r ≡ checkRooms (lentOf (now (masks .entry)) (now (levels .entry)) (now (cases .entry)) (now (symbols .entry))) (now (hints .entry)) 0 ⌝ }
 {
     if masks.len() != levels.len() {
         return 30;

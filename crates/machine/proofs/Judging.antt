@@ -3,7 +3,6 @@
 use Prim.Native.Nat.{ℕ, _-_, _≤_}
 use mathlib.Core.Path.{_≡_, refl, sym, ap, subst, _∙_}
 use mathlib.Core.List.{List, [], _++_}
-use native.Mathlib.Nat.{sub-zero}
 use native.Mathlib.Omega.{arith}
 use lib.Dec.{T}
 use lib.ListN.{length, replicate}
@@ -21,7 +20,7 @@ use Rattle.machine.proofs.Language.{IsVerdict, Word, accepts, Lawful, A
 use Rattle.machine.proofs.Verdicts.{closed-none}
 use Rattle.machine.proofs.Chains.{Done}
 use Rattle.machine.proofs.Agreeing.{right-verdicts-agree}
-use Rattle.machine.proofs.LentTables.{column-whole, placed-whole, read-back}
+use Rattle.machine.proofs.LentTables.{column-whole, placed-whole, placed-none, read-back}
 use Rattle.machine.proofs.Images.{image-lawful, accepted-by-runs, same-language}
 
 -- the number of an end is that of a verdict or a stop
@@ -38,23 +37,22 @@ pub record Even (lent : Lent) : Type 0 where
   pub levels : length (lent .masks) ≡ length (lent .levels)
   pub symbols : length (lent .cases) ≡ length (lent .symbols)
 
-module _ (lent : Lent) (even : Even lent) (o : Outcome) (fits : length (comesTo (ends o) .table) ≤ length (lent .masks)) where
+module _ (lent : Lent) (even : Even lent) (o : Outcome) where
   masks-end : resultOf lent (ends o) .tables .masks ≡ column maskOf (comesTo (ends o) .table) ++ replicate (length (lent .masks) - length (comesTo (ends o) .table)) 0
   unfolding resultOf tablesAfter
-  masks-end = column-whole maskOf (comesTo (ends o) .table) (length (lent .masks)) (lent .masks) refl fits
+  masks-end = column-whole maskOf (comesTo (ends o) .table) (length (lent .masks)) (lent .masks) refl
 
   levels-end : resultOf lent (ends o) .tables .levels ≡ column levelOf (comesTo (ends o) .table) ++ replicate (length (lent .levels) - length (comesTo (ends o) .table)) 0
   unfolding resultOf tablesAfter
-  levels-end = column-whole levelOf (comesTo (ends o) .table) (length (lent .masks)) (lent .levels) (even .levels) (omega (arith, even .levels))
+  levels-end = column-whole levelOf (comesTo (ends o) .table) (length (lent .masks)) (lent .levels) (even .levels)
 
   cases-end : resultOf lent (ends o) .tables .cases ≡ replicate (length (lent .cases)) 0
   unfolding resultOf tablesAfter casesIn
-  cases-end = placed-whole [] (lent .cases) (omega arith) ∙ ap (λ (n : ℕ). replicate n 0) (sub-zero (length (lent .cases)))
+  cases-end = placed-none (lent .cases)
 
-  symbols-end : length (symbolsIn (ends o)) ≤ length (lent .symbols)
-      → resultOf lent (ends o) .tables .symbols ≡ symbolsIn (ends o) ++ replicate (length (lent .symbols) - length (symbolsIn (ends o))) 0
+  symbols-end : resultOf lent (ends o) .tables .symbols ≡ symbolsIn (ends o) ++ replicate (length (lent .symbols) - length (symbolsIn (ends o))) 0
   unfolding resultOf tablesAfter
-  symbols-end l = ap (λ (k : ℕ). placed k (symbolsIn (ends o)) (lent .symbols)) (even .symbols) ∙ placed-whole (symbolsIn (ends o)) (lent .symbols) l
+  symbols-end = ap (λ (k : ℕ). placed k (symbolsIn (ends o)) (lent .symbols)) (even .symbols) ∙ placed-whole (symbolsIn (ends o)) (lent .symbols)
 
   result-blockers : resultOf lent (ends o) .blockers ≡ length (comesTo (ends o) .table)
   unfolding resultOf
@@ -85,11 +83,10 @@ module _ (image : List ℕ) (lent : Lent) (valid : Valid image) (even : Even len
   unfolding numberOf symbolsIn resultOf
   found (nonempty word c) d e =
       let right = d .right in
-      let long : length word ≤ length (lent .symbols) = omega (arith, even .symbols, right .long, d .counted .word-fits) in
       record {
         word = word;
-        fits = long;
-        stands = symbols-end lent even (nonempty word c) (d .counted .table-fits) long;
+        fits = omega (arith, even .symbols, right .long, d .counted .word-fits);
+        stands = symbols-end lent even (nonempty word c);
         accepted = accepted-by-runs image valid word .1 (right .shortest .symbols, right .shortest .accepted);
         long = right .long;
         shortest = λ other a. let h = means other a in right .shortest .least other (h .0) (h .1);
@@ -101,7 +98,7 @@ module _ (image : List ℕ) (lent : Lent) (valid : Valid image) (even : Even len
 
   closed-frame : (o : Outcome) → Done (systemOf image) (roomsOf lent) o → numberOf (ends o) ≡ 0 → Closed (systemOf image) (heldBy (resultOf lent (ends o)))
   unfolding numberOf
-  closed-frame (empty c) d e = subst (Closed (systemOf image)) (sym (held-end lent even (empty c) (d .counted .table-fits))) (d .right)
+  closed-frame (empty c) d e = subst (Closed (systemOf image)) (sym (held-end lent even (empty c))) (d .right)
   closed-frame (nonempty word c) d e = absurd (omega arith)
   closed-frame (stepsLack c) d e = absurd (omega arith)
   closed-frame (blockersLack c) d e = absurd (omega arith)
@@ -118,28 +115,24 @@ module _ (image : List ℕ) (lent : Lent) (valid : Valid image) (even : Even len
   wordless (blockersLack c) n = refl
   wordless (wordLacks c) n = refl
 
-  leaves-symbols : (o : Outcome) → Done (systemOf image) (roomsOf lent) o → (numberOf (ends o) ≡ 1 → ⊥)
-      → resultOf lent (ends o) .tables .symbols ≡ replicate (length (lent .symbols)) 0
-  leaves-symbols o d n =
-      let w = wordless o n in
-      symbols-end lent even o (d .counted .table-fits) (rw w (omega arith))
-      ∙ rw w (ap (λ (k : ℕ). replicate k 0) (sub-zero (length (lent .symbols))))
+  leaves-symbols : (o : Outcome) → (numberOf (ends o) ≡ 1 → ⊥) → resultOf lent (ends o) .tables .symbols ≡ replicate (length (lent .symbols)) 0
+  unfolding resultOf tablesAfter
+  leaves-symbols o n = rw (wordless o n, even .symbols) (placed-none (lent .symbols))
 
   -- every rule
   pub rules : (o : Outcome) → Done (systemOf image) (roomsOf lent) o → Rules image lent (resultOf lent (ends o))
   unfolding resultOf
   rules o d =
-      let fits = d .counted .table-fits in
       record {
         nonempty = found o d;
         empty = none-accepted o d;
         empty-frame = closed-frame o d;
         other = number-low o;
-        held-fits = fits;
-        leaves-cases = cases-end lent even o fits;
-        leaves-symbols = leaves-symbols o d;
-        leaves-masks = leaves-masks lent even o fits;
-        leaves-levels = leaves-levels lent even o fits;
+        held-fits = d .counted .table-fits;
+        leaves-cases = cases-end lent even o;
+        leaves-symbols = leaves-symbols o;
+        leaves-masks = leaves-masks lent even o;
+        leaves-levels = leaves-levels lent even o;
       }
 
 -- an outcome that shows a verdict is one

@@ -3,6 +3,7 @@
 use Prim.Native.Nat.{ℕ, zero, suc, _+_, _-_, _≤_, max}
 use mathlib.Core.Path.{_≡_, refl, sym, ap, _∙_}
 use mathlib.Core.List.{List, [], _∷_, _++_, append-nil, append-assoc}
+use native.Mathlib.Nat.{sub-zero}
 use native.Mathlib.Omega.{arith}
 use lib.ListN.{
   length,
@@ -43,11 +44,15 @@ unfolding placed
 placed-length old new before l h = simp (length-append, length-drop, length-replicate) (omega arith)
 
 -- in place of a whole table: the new entries, and 0 after them
-pub placed-whole : (new before : List ℕ) → length new ≤ length before → placed (length before) new before ≡ new ++ replicate (length before - length new) 0
+pub placed-whole : (new before : List ℕ) → placed (length before) new before ≡ new ++ replicate (length before - length new) 0
 unfolding placed
-placed-whole new before h =
+placed-whole new before =
     let m : length before ≤ max (length before) (length new) = omega arith in
     rw (drop-of-length-le before m, append-nil)
+
+-- with nothing new: 0 in each place
+pub placed-none : (before : List ℕ) → placed (length before) [] before ≡ replicate (length before) 0
+placed-none before = placed-whole [] before ∙ ap (λ (k : ℕ). replicate k 0) (sub-zero (length before))
 
 -- as many new entries as old ones: no place becomes free
 pub placed-exact : (new before : List ℕ) (old : ℕ) → length new ≡ old → placed old new before ≡ new ++ drop old before
@@ -86,12 +91,12 @@ read-back-table table old older masks levels =
     (read-back table _ _)
 
 -- a column in place of a whole table: its entries, and 0 after them
-pub column-whole : {A : Type 0} (field : A → ℕ) (entries : List A) (old : ℕ) (before : List ℕ) → old ≡ length before → length entries ≤ length before
+pub column-whole : {A : Type 0} (field : A → ℕ) (entries : List A) (old : ℕ) (before : List ℕ) → old ≡ length before
     → placed old (column field entries) before ≡ column field entries ++ replicate (length before - length entries) 0
-column-whole field entries old before e l =
+column-whole field entries old before e =
     let long = column-length field entries in
     ap (λ (k : ℕ). placed k (column field entries) before) e
-    ∙ placed-whole (column field entries) before (omega (arith, long))
+    ∙ placed-whole (column field entries) before
     ∙ ap (λ (n : ℕ). column field entries ++ replicate (length before - n) 0) long
 
 -- a column from last to first is as long too

@@ -41,12 +41,12 @@ check-high true number later l h = inr l
 check-high false number later l h = h
 
 module _ (image : List ℕ) (lent : Lent) (terms : Terms) where
-  image-first : (number : ℕ) → checkRooms lent terms number ≡ 0 → number ≡ 0
+  image-first : (number : ℕ) → checkRooms lent (terms .hints) number ≡ 0 → number ≡ 0
   unfolding checkRooms
   image-first zero e = refl
   image-first (suc number) e = e
 
-  rooms-checked : checkRooms lent terms 0 ≡ 0 → T (oddRooms lent) → ⊥
+  rooms-checked : checkRooms lent (terms .hints) 0 ≡ 0 → T (oddRooms lent) → ⊥
   unfolding checkRooms
   rooms-checked e = check-fails _ _ _ e .0
 
@@ -54,7 +54,7 @@ module _ (image : List ℕ) (lent : Lent) (terms : Terms) where
   unfolding checkRun oddRooms
   checked e =
       let v : checkImage image ≡ 0 = image-first (checkImage image) e in
-      let odd = rooms-checked (ap (checkRooms lent terms) (sym v) ∙ e) in
+      let odd = rooms-checked (ap (checkRooms lent (terms .hints)) (sym v) ∙ e) in
       record {
         valid = v;
         even = record {
@@ -63,7 +63,7 @@ module _ (image : List ℕ) (lent : Lent) (terms : Terms) where
         };
       }
 
-  rooms-number : (number : ℕ) → (number ≡ 0) ⊎ (20 ≤ number) → (checkRooms lent terms number ≡ 0) ⊎ (20 ≤ checkRooms lent terms number)
+  rooms-number : (number : ℕ) → (number ≡ 0) ⊎ (20 ≤ number) → (checkRooms lent (terms .hints) number ≡ 0) ⊎ (20 ≤ checkRooms lent (terms .hints) number)
   unfolding checkRooms
   rooms-number zero h = check-high _ 30 _ (omega arith) (check-high _ 31 0 (omega arith) (inl refl))
   rooms-number (suc number) h = h
@@ -82,7 +82,7 @@ module _ (image : List ℕ) (lent : Lent) (terms : Terms) where
   unfolding checkRun checkRooms
   image-number n = at (checkImage image) n
     where
-      at : (number : ℕ) → (number ≡ 0 → ⊥) → checkRooms lent terms number ≡ number
+      at : (number : ℕ) → (number ≡ 0 → ⊥) → checkRooms lent (terms .hints) number ≡ number
       at zero f = absurd (f refl)
       at (suc number) f = refl
 

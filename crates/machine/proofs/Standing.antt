@@ -14,7 +14,6 @@ use Rattle.machine.proofs.Passing.{chosen-is, chosen-hinted}
 use Rattle.machine.proofs.Steps.{under, closedTable, Taken, opening, finding, extending, blocking, closing, emptying, step-taken}
 use Rattle.machine.proofs.Steps.{Judged, roomToOpen, extended, roomToBlock, closed, found, emptied, noRoomToOpen, noRoomToBlock}
 use Rattle.machine.proofs.Steps.{Advanced, tried, spent}
-use Rattle.machine.proofs.Invariant.{nothing}
 
 -- the counts of a configuration, and what fits the rooms
 pub record Counted (rooms : Rooms) (c : Configuration) : Type 0 where

@@ -104,12 +104,12 @@ unfoldable pub oversize : Lent → List ℕ → Bool
 oversize lent hints = ltb 65536 (length (lent .masks)) or ltb 65536 (length (lent .cases)) or ltb 65536 (length hints)
 
 -- the image's checks, then 30, then 31; 0 where none applies
-unfoldable pub checkRooms : Lent → Terms → ℕ → ℕ
-checkRooms lent terms zero = check (oddRooms lent) 30 (check (oversize lent (terms .hints)) 31 0)
-checkRooms lent terms (suc number) = suc number
+unfoldable pub checkRooms : Lent → List ℕ → ℕ → ℕ
+checkRooms lent hints zero = check (oddRooms lent) 30 (check (oversize lent hints) 31 0)
+checkRooms lent hints (suc number) = suc number
 
 unfoldable pub checkRun : List ℕ → Lent → Terms → ℕ
-checkRun image lent terms = checkRooms lent terms (checkImage image)
+checkRun image lent terms = checkRooms lent (terms .hints) (checkImage image)
 
 -- the end of the run of 01's machine on the image, in rooms of so many places
 abbrev pub roomsOf : Lent → Rooms

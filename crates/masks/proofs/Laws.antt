@@ -55,9 +55,6 @@ subset-antisymmetric a b h k = sym (eqb→eq (bitAnd a b) a h) ∙ and-comm a b 
 pub empty-members : (q : ℕ) → Member q 0 → ⊥
 empty-members q i = omega (arith, digit-zero q)
 
-pub empty-subset : (a : ℕ) → T (subset 0 a)
-empty-subset a = members-subset 0 a (λ q i. absurd (empty-members q i))
-
 -- union: a state is in it exactly if it is in either set
 pub union-members : (a b q : ℕ) → Member q (union a b) ↔ (Member q a ⊎ Member q b)
 unfolding union
@@ -103,16 +100,6 @@ within-below n set h = ltb→lt set (2 ^ n) h
 pub below-within : (n set : ℕ) → set < 2 ^ n → T (within n set)
 unfolding within
 below-within n set h = lt→ltb set (2 ^ n) h
-
-pub subset-within : (n a b : ℕ) → T (subset a b) → T (within n b) → T (within n a)
-subset-within n a b h k = members-within n a (λ q i. within-members n b k q (subset-members a b h q i))
-
-pub union-within : (n a b : ℕ) → T (within n a) → T (within n b) → T (within n (union a b))
-union-within n a b h k = members-within n (union a b) (λ q i. below q (union-members a b q .0 i))
-  where
-    below : (q : ℕ) → Member q a ⊎ Member q b → q < n
-    below q (inl i) = within-members n a h q i
-    below q (inr i) = within-members n b k q i
 
 pub single-within : (n q : ℕ) → q < n → T (within n (single q))
 single-within n q h = members-within n (single q) (λ p i. subst (λ (x : ℕ). x < n) (sym (single-members q p .0 i)) h)
