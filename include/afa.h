@@ -8,8 +8,8 @@
      be null where that length is 0. head and counts are never null.
    - Tables are aligned as their type, head and counts too.
    - Tables must not overlap: what a function may write (head, masks, levels,
-     cases, symbols, counts) shares no byte with anything else that it is lent
-     in the same call. */
+     entered, cases, symbols, counts) shares no byte with anything else that it
+     is lent in the same call. */
 #ifndef AFA_H
 #define AFA_H
 
@@ -31,15 +31,18 @@ uint64_t afa_accepts(const uint8_t *image, size_t image_len,
                      const uint8_t *word, size_t word_len);
 
 /* Decides whether any word is accepted, in two rooms that the caller lends:
-   masks and levels for blockers, cases and symbols for pending cases and the
-   word. 0 is empty, and masks begin with the frame; 1 is nonempty, and symbols
-   begin with a shortest word, whose length is the level; 2, 3 and 4 are a run
-   that stopped for want of steps, blocker room or word room; 20 to 27, 30 and
-   31 are refusals, and leave every table as it was. counts has steps, level,
+   masks, levels and entered for blockers, cases and symbols for pending cases
+   and the word. The tables of a room have one length. 0 is empty, and masks
+   begin with the frame; 1 is nonempty, and symbols begin with a shortest word,
+   whose length is the level; 2, 3 and 4 are a run that stopped for want of
+   steps, blocker room or word room; 20 to 27, 30 and 31 are refusals, and leave
+   every table as it was. entered has for each blocker held the count of steps
+   including the block that made it, and 0 after them. counts has steps, level,
    blockers held and hints accepted, all 0 where refused. */
 uint64_t afa_run(const uint8_t *image, size_t image_len,
                  uint64_t *masks, size_t masks_len,
                  uint32_t *levels, size_t levels_len,
+                 uint64_t *entered, size_t entered_len,
                  uint64_t *cases, size_t cases_len,
                  uint8_t *symbols, size_t symbols_len,
                  const uint64_t *hints, size_t hints_len,

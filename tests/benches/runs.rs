@@ -3,8 +3,9 @@
 //!
 //! Both run in one process and in turn, on the same image and in rooms of 1,024 places that are
 //! cleared before each run, without hints; clearing and comparing are not timed. Times are the
-//! processor's for this thread, so that what else the machine does counts little. The five numbers
-//! and all tables are compared after each run, and a difference ends the program with an error.
+//! processor's for this thread, so that what else the machine does counts little. The machine here has
+//! no table of when blockers entered. The five numbers and all other tables are compared after each
+//! run, and a difference ends the program with an error.
 
 use afa_tests::afa;
 use afa_tests::generate::runs::run_model_of;
@@ -77,7 +78,7 @@ fn random_subjects() -> Vec<Subject> {
         let model = run_model_of(&mut random, states, symbols);
         let allowance = 4_000;
         let mut tables = Tables::cleared(PLACES, PLACES);
-        let answer = machine::run(&model.image(), tables.lend(), &[], allowance);
+        let answer = machine::run_without_entered(&model.image(), tables.lend(), &[], allowance);
         let ended_so = &mut by_number[answer.number as usize];
         if answer.steps < 1_000 || *ended_so == 8 {
             continue;
@@ -108,7 +109,7 @@ fn measure(subject: &Subject) -> Result<(), String> {
     };
     let run_rust = |tables: &mut Tables| {
         let (image, rooms) = (black_box(&image), tables.lend());
-        machine::run(image, rooms, &[], subject.allowance)
+        machine::run_without_entered(image, rooms, &[], subject.allowance)
     };
     let mut tables = [0, 1].map(|_| Tables::cleared(PLACES, PLACES));
     let [library_tables, rust_tables] = &mut tables;
@@ -133,7 +134,7 @@ fn measure(subject: &Subject) -> Result<(), String> {
             if library.1 != rust.1 {
                 return Err(format!("{:?} but in Rust {:?}", library.1, rust.1));
             }
-            if library_tables != rust_tables {
+            if compared(library_tables) != compared(rust_tables) {
                 return Err(format!("{:?} with other tables than in Rust", library.1));
             }
             library_time += library.0;
@@ -159,10 +160,21 @@ fn measure(subject: &Subject) -> Result<(), String> {
     Ok(())
 }
 
+/// The tables that both sides have.
+fn compared(tables: &Tables) -> (&[u64], &[u32], &[u64], &[u8]) {
+    (
+        &tables.masks,
+        &tables.levels,
+        &tables.cases,
+        &tables.symbols,
+    )
+}
+
 /// One run in cleared tables.
 fn timed(tables: &mut Tables, run: impl Fn(&mut Tables) -> Answer) -> (Duration, Answer) {
     tables.masks.fill(0);
     tables.levels.fill(0);
+    tables.entered.fill(0);
     tables.cases.fill(0);
     tables.symbols.fill(0);
     let start = processor_time();

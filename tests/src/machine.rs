@@ -7,9 +7,11 @@ use crate::checks::check;
 use crate::tables::{Answer, Rooms};
 use automaton::{contains, Automaton};
 use blockers::Blockers;
+use entered::EnteredTable;
 
 mod automaton;
 mod blockers;
+mod entered;
 
 /// Of a room and of the hint table.
 pub const MOST_PLACES: usize = 65_536;
@@ -41,10 +43,15 @@ pub fn run(image: &[u8], rooms: Rooms, hints: &[u64], allowance: u64) -> Answer 
     observed_run(image, rooms, hints, allowance, |_| {})
 }
 
+/// The run of a machine that has no table of when blockers entered. The one lent is left alone.
+pub fn run_without_entered(image: &[u8], rooms: Rooms, hints: &[u64], allowance: u64) -> Answer {
+    observed_run(image, rooms.without_entered(), hints, allowance, |_| {})
+}
+
 /// A run on any bytes and in any rooms.
-pub fn observed_run(
+pub fn observed_run<Entered: EnteredTable>(
     image: &[u8],
-    rooms: Rooms,
+    rooms: Rooms<Entered>,
     hints: &[u64],
     allowance: u64,
     observe: impl FnMut(Event),
@@ -54,7 +61,9 @@ pub fn observed_run(
         Err(number) => return Answer::refused(number),
     };
     let (blocker_room, word_room) = (rooms.masks.len(), rooms.cases.len());
-    if rooms.levels.len() != blocker_room || rooms.symbols.len() != word_room {
+    let odd_blocker_room =
+        rooms.levels.len() != blocker_room || !rooms.entered.has_length(blocker_room);
+    if odd_blocker_room || rooms.symbols.len() != word_room {
         return Answer::refused(30);
     }
     if blocker_room.max(word_room).max(hints.len()) > MOST_PLACES {
@@ -62,7 +71,7 @@ pub fn observed_run(
     }
     let mut machine = Machine {
         automaton: Automaton::new(image, &head),
-        blockers: Blockers::new(rooms.masks, rooms.levels),
+        blockers: Blockers::new(rooms.masks, rooms.levels, rooms.entered),
         cases: rooms.cases,
         symbols: rooms.symbols,
         hints,
@@ -81,9 +90,9 @@ pub fn observed_run(
 
 /// Cases are pending at consecutive levels from N down, so the first place of word room is that of
 /// level N and the last one in use that of the lowest.
-struct Machine<'a, Observe> {
+struct Machine<'a, Entered, Observe> {
     automaton: Automaton<'a>,
-    blockers: Blockers<'a>,
+    blockers: Blockers<'a, Entered>,
     cases: &'a mut [u64],
     /// The symbol that led to each pending case, 0 for the first.
     symbols: &'a mut [u8],
@@ -100,7 +109,7 @@ struct Machine<'a, Observe> {
     observe: Observe,
 }
 
-impl<Observe: FnMut(Event)> Machine<'_, Observe> {
+impl<Entered: EnteredTable, Observe: FnMut(Event)> Machine<'_, Entered, Observe> {
     /// "Start: if I is a subset of F, answer 1 with the empty word and 0 steps. Otherwise steps
     /// follow. Before each step the allowance is tested (2), then the room that the step needs
     /// (3 or 4). A pending case is worked on first; with none, an open N is closed; else a level is
@@ -175,7 +184,8 @@ impl<Observe: FnMut(Event)> Machine<'_, Observe> {
     /// "If t blocks came before and hint t exists and passes, it is taken. Otherwise Y starts as X;
     /// states 0 to n-1 not in X are tried in order, each kept if the set with it still passes.
     /// Blockers of level <= i that are subsets of Y leave and the rest close up; Y enters at the end
-    /// with level i; X is no longer pending. Room is judged after the leaving."
+    /// with level i; X is no longer pending. Room is judged after the leaving." It has entered at
+    /// "the count of steps including the block that made it".
     fn block(&mut self, case: u64, level: u32) -> Option<u64> {
         let hint = self.hints.get(self.blocks).copied();
         let hint = hint.filter(|&hint| self.passes(hint, case, level));
@@ -190,7 +200,7 @@ impl<Observe: FnMut(Event)> Machine<'_, Observe> {
             return Some(3);
         }
         self.steps += 1;
-        self.blockers.enter(blocker, level);
+        self.blockers.enter(blocker, level, self.steps);
         self.blocks += 1;
         self.hints_accepted += u64::from(hint.is_some());
         self.pending -= 1;
@@ -230,7 +240,8 @@ impl<Observe: FnMut(Event)> Machine<'_, Observe> {
     /// "For j from 1 to N, in table order, a blocker of level exactly j all of whose backward sets
     /// are blocked at j rises to j+1 in place; other subsets of it of level <= j+1 leave and the rest
     /// close up. N is then no longer open. If some level from 1 to N then holds no blocker, take the
-    /// lowest such j: answer 0; the frame is the blockers above j."
+    /// lowest such j: answer 0; the frame is the blockers above j." Rising "doesn't alter" when a
+    /// blocker entered.
     fn close(&mut self) -> Option<u64> {
         self.steps += 1;
         for level in 1..=self.level {

@@ -2,19 +2,34 @@
 
 use crate::random::Random;
 
-/// Blocker room and word room, lent.
-pub struct Rooms<'a> {
+/// Blocker room and word room, lent. For a machine that has no table of when blockers entered, `()`
+/// stands in its place.
+pub struct Rooms<'a, Entered = &'a mut [u64]> {
     pub masks: &'a mut [u64],
     pub levels: &'a mut [u32],
+    pub entered: Entered,
     pub cases: &'a mut [u64],
     pub symbols: &'a mut [u8],
 }
 
-/// Blocker room and word room, owned. The two tables of one room may differ in length.
+impl<'a> Rooms<'a> {
+    pub fn without_entered(self) -> Rooms<'a, ()> {
+        Rooms {
+            masks: self.masks,
+            levels: self.levels,
+            entered: (),
+            cases: self.cases,
+            symbols: self.symbols,
+        }
+    }
+}
+
+/// Blocker room and word room, owned. The tables of one room may differ in length.
 #[derive(Clone, Debug, PartialEq, Eq)]
 pub struct Tables {
     pub masks: Vec<u64>,
     pub levels: Vec<u32>,
+    pub entered: Vec<u64>,
     pub cases: Vec<u64>,
     pub symbols: Vec<u8>,
 }
@@ -24,6 +39,7 @@ impl Tables {
         Tables {
             masks: vec![0; blocker_room],
             levels: vec![0; blocker_room],
+            entered: vec![0; blocker_room],
             cases: vec![0; word_room],
             symbols: vec![0; word_room],
         }
@@ -31,16 +47,19 @@ impl Tables {
 
     /// Filled with what no run leaves there: numbers that are not 0.
     pub fn filled(random: &mut Random, blocker_room: usize, word_room: usize) -> Self {
-        Self::filled_unevenly(random, [blocker_room, blocker_room, word_room, word_room])
+        let [masks, levels, entered] = [blocker_room; 3];
+        let [cases, symbols] = [word_room; 2];
+        Self::filled_unevenly(random, [masks, levels, entered, cases, symbols])
     }
 
-    /// The same with a length for each table: masks, levels, cases, symbols.
-    pub fn filled_unevenly(random: &mut Random, lengths: [usize; 4]) -> Self {
-        let [masks, levels, cases, symbols] = lengths;
+    /// The same with a length for each table: masks, levels, entered, cases, symbols.
+    pub fn filled_unevenly(random: &mut Random, lengths: [usize; 5]) -> Self {
+        let [masks, levels, entered, cases, symbols] = lengths;
         let mut number = || random.number() | 0x0101_0101_0101_0101;
         Tables {
             masks: (0..masks).map(|_| number()).collect(),
             levels: (0..levels).map(|_| number() as u32).collect(),
+            entered: (0..entered).map(|_| number()).collect(),
             cases: (0..cases).map(|_| number()).collect(),
             symbols: (0..symbols).map(|_| number() as u8).collect(),
         }
@@ -50,19 +69,41 @@ impl Tables {
         Rooms {
             masks: &mut self.masks,
             levels: &mut self.levels,
+            entered: &mut self.entered,
             cases: &mut self.cases,
             symbols: &mut self.symbols,
         }
     }
 
-    pub fn lengths(&self) -> [usize; 4] {
+    /// Of masks, levels, entered, cases and symbols.
+    pub fn lengths(&self) -> [usize; 5] {
         [
             self.masks.len(),
             self.levels.len(),
+            self.entered.len(),
             self.cases.len(),
             self.symbols.len(),
         ]
     }
+
+    /// The first places of blocker room, as many as are held.
+    pub fn blockers(&self, held: u64) -> Vec<Blocker> {
+        let blocker = |place| Blocker {
+            mask: self.masks[place],
+            level: self.levels[place],
+            entered: self.entered[place],
+        };
+        (0..held as usize).map(blocker).collect()
+    }
+}
+
+/// An entry of blocker room.
+#[derive(Clone, Copy, Debug, PartialEq, Eq)]
+pub struct Blocker {
+    pub mask: u64,
+    pub level: u32,
+    /// The count of steps including the block that made it.
+    pub entered: u64,
 }
 
 /// What a run is lent besides its image.

@@ -48,11 +48,12 @@ fn pointer_mut<T>(slice: &mut [T]) -> *mut T {
 }
 
 /// A run with rooms of these lengths and these hints, each null if it is empty, against the machine.
-fn expect(image: &[u8], lengths: [usize; 4], hints: &[u64], allowance: u64, numbers: [u64; 5]) {
-    let [masks, levels, cases, symbols] = lengths;
+fn expect(image: &[u8], lengths: [usize; 5], hints: &[u64], allowance: u64, numbers: [u64; 5]) {
+    let [masks, levels, entered, cases, symbols] = lengths;
     let before = Tables {
         masks: vec![9; masks],
         levels: vec![9; levels],
+        entered: vec![9; entered],
         cases: vec![9; cases],
         symbols: vec![9; symbols],
     };
@@ -70,6 +71,8 @@ fn expect(image: &[u8], lengths: [usize; 4], hints: &[u64], allowance: u64, numb
             masks,
             pointer_mut(&mut tables.levels),
             levels,
+            pointer_mut(&mut tables.entered),
+            entered,
             pointer_mut(&mut tables.cases),
             cases,
             pointer_mut(&mut tables.symbols),
@@ -90,24 +93,33 @@ fn expect(image: &[u8], lengths: [usize; 4], hints: &[u64], allowance: u64, numb
 fn run() {
     let models = [model_a(), model_b(), model_c(), model_d()];
     let [a, b, c, d] = models.map(|model| model.image());
-    let nothing = [0; 4];
+    let nothing = [0; 5];
     expect(&[], nothing, &[], 100, [20, 0, 0, 0, 0]);
-    expect(&[], [4; 4], &[4], 100, [20, 0, 0, 0, 0]);
+    expect(&[], [4; 5], &[4], 100, [20, 0, 0, 0, 0]);
     // No room at all: enough where no step is needed.
     expect(&d, nothing, &[], 0, [1, 0, 0, 0, 0]);
     expect(&d, nothing, &[4], u64::MAX, [1, 0, 0, 0, 0]);
     expect(&a, nothing, &[], 0, [2, 0, 0, 0, 0]);
     expect(&a, nothing, &[], 100, [4, 0, 0, 0, 0]);
-    expect(&a, [4, 4, 0, 0], &[], 100, [4, 0, 0, 0, 0]);
-    expect(&a, [0, 0, 4, 4], &[], 100, [3, 1, 1, 0, 0]);
-    expect(&a, [0, 0, 4, 4], &[2], 1, [2, 1, 1, 0, 0]);
+    expect(&a, [4, 4, 4, 0, 0], &[], 100, [4, 0, 0, 0, 0]);
+    expect(&a, [0, 0, 0, 4, 4], &[], 100, [3, 1, 1, 0, 0]);
+    expect(&a, [0, 0, 0, 4, 4], &[2], 1, [2, 1, 1, 0, 0]);
     // A word that is found before any block.
-    expect(&b, [0, 0, 1, 1], &[], 100, [1, 2, 1, 0, 0]);
+    expect(&b, [0, 0, 0, 1, 1], &[], 100, [1, 2, 1, 0, 0]);
     // Hints alone.
-    expect(&a, [4; 4], &[], 100, [0, 3, 1, 1, 0]);
-    expect(&c, [4; 4], &[], 100, [1, 6, 2, 1, 0]);
-    // One table of a room.
-    for lengths in [[0, 4, 4, 4], [4, 0, 4, 4], [4, 4, 0, 4], [4, 4, 4, 0]] {
+    expect(&a, [4; 5], &[], 100, [0, 3, 1, 1, 0]);
+    expect(&c, [4; 5], &[], 100, [1, 6, 2, 1, 0]);
+    // Some tables of a room and not the others.
+    for lengths in [
+        [0, 4, 4, 4, 4],
+        [4, 0, 4, 4, 4],
+        [4, 4, 0, 4, 4],
+        [4, 0, 0, 4, 4],
+        [0, 4, 0, 4, 4],
+        [0, 0, 4, 4, 4],
+        [4, 4, 4, 0, 4],
+        [4, 4, 4, 4, 0],
+    ] {
         expect(&c, lengths, &[], 100, [30, 0, 0, 0, 0]);
     }
 }

@@ -33,14 +33,18 @@ impl Terms<'_> {
     }
 }
 
-/// The five numbers, the entries as masks and levels, and the word; all other places are 0.
-fn expect(model: &Model, terms: Terms, numbers: [u64; 5], entries: &[(u64, u32)], word: &[u8]) {
+/// A blocker's mask, its level and the step at which it entered.
+type Entry = (u64, u32, u64);
+
+/// The five numbers, the entries and the word; all other places are 0.
+fn expect(model: &Model, terms: Terms, numbers: [u64; 5], entries: &[Entry], word: &[u8]) {
     let (answer, after) = Comparison::default().run(&model.image(), &terms.lent(), model);
     assert_eq!(answer, Answer::of_numbers(numbers), "{model}");
     let mut expected = Tables::cleared(terms.blocker_room, terms.word_room);
-    for (place, &(mask, level)) in entries.iter().enumerate() {
+    for (place, &(mask, level, entered)) in entries.iter().enumerate() {
         expected.masks[place] = mask;
         expected.levels[place] = level;
+        expected.entered[place] = entered;
     }
     expected.symbols[..word.len()].copy_from_slice(word);
     assert_eq!(after, expected, "{model}");
@@ -58,14 +62,14 @@ fn expect_refused(image: &[u8], terms: Terms, number: u64) {
 #[test]
 fn a() {
     let (a, program) = (model_a(), PROGRAM);
-    expect(&a, program, [0, 3, 1, 1, 0], &[(4, 2)], &[]);
+    expect(&a, program, [0, 3, 1, 1, 0], &[(4, 2, 2)], &[]);
     let one_place = Terms {
         blocker_room: 1,
         word_room: 1,
         allowance: 3,
         ..program
     };
-    expect(&a, one_place, [0, 3, 1, 1, 0], &[(4, 2)], &[]);
+    expect(&a, one_place, [0, 3, 1, 1, 0], &[(4, 2, 2)], &[]);
     assert!(is_closed(&a, &[4]));
 }
 
@@ -74,7 +78,7 @@ fn a_stops() {
     for (blocker_room, word_room, allowance, numbers, blockers) in [
         (256, 256, 0, [2, 0, 0, 0, 0], &[][..]),
         (256, 256, 1, [2, 1, 1, 0, 0], &[]),
-        (256, 256, 2, [2, 2, 1, 1, 0], &[(4, 1)]),
+        (256, 256, 2, [2, 2, 1, 1, 0], &[(4, 1, 2)]),
         (0, 256, 100_000, [3, 1, 1, 0, 0], &[]),
         (0, 256, 2, [3, 1, 1, 0, 0], &[]),
         (0, 256, 1, [2, 1, 1, 0, 0], &[]),
@@ -101,15 +105,16 @@ fn b() {
 #[test]
 fn c() {
     let (c, program) = (model_c(), PROGRAM);
-    expect(&c, program, [1, 6, 2, 1, 0], &[(2, 1)], &[0, 1]);
+    let (grown, hinted) = ([(2, 1, 2)], [(4, 1, 2)]);
+    expect(&c, program, [1, 6, 2, 1, 0], &grown, &[0, 1]);
     let with_hints = |hints| Terms { hints, ..program };
-    expect(&c, with_hints(&[6]), [1, 6, 2, 1, 0], &[(2, 1)], &[0, 1]);
-    expect(&c, with_hints(&[4]), [1, 6, 2, 1, 1], &[(4, 1)], &[0, 1]);
+    expect(&c, with_hints(&[6]), [1, 6, 2, 1, 0], &grown, &[0, 1]);
+    expect(&c, with_hints(&[4]), [1, 6, 2, 1, 1], &hinted, &[0, 1]);
     // The second block never comes, and it is not the first that the second hint is for.
-    expect(&c, with_hints(&[4, 2]), [1, 6, 2, 1, 1], &[(4, 1)], &[0, 1]);
-    expect(&c, with_hints(&[6, 4]), [1, 6, 2, 1, 0], &[(2, 1)], &[0, 1]);
+    expect(&c, with_hints(&[4, 2]), [1, 6, 2, 1, 1], &hinted, &[0, 1]);
+    expect(&c, with_hints(&[6, 4]), [1, 6, 2, 1, 0], &grown, &[0, 1]);
     // The backward sets of 12 are those of 4, but there is no state 3.
-    expect(&c, with_hints(&[12]), [1, 6, 2, 1, 0], &[(2, 1)], &[0, 1]);
+    expect(&c, with_hints(&[12]), [1, 6, 2, 1, 0], &grown, &[0, 1]);
     assert_eq!(shortest_word(&c), Some(2));
 }
 
@@ -144,7 +149,7 @@ fn nineteen_bytes() {
 #[test]
 fn n_64_and_65() {
     let mut model = Model::new(64, 1 << 63, 1, &[&[]]);
-    let frame = [((1 << 63) - 1, 2)];
+    let frame = [((1 << 63) - 1, 2, 2)];
     expect(&model, PROGRAM, [0, 3, 1, 1, 0], &frame, &[]);
     model.states = 65;
     expect_refused(&model.image(), PROGRAM, 21);
@@ -157,7 +162,7 @@ fn m_4096_and_4097() {
     let mut model = Model::plain(64, 64, 4096);
     model.initial = 2;
     assert_eq!(model.image().len(), 37_396);
-    let frame = [(u64::MAX - 2, 2)];
+    let frame = [(u64::MAX - 2, 2, 2)];
     expect(&model, PROGRAM, [0, 3, 1, 1, 0], &frame, &[]);
     let mut longer = Model::plain(64, 64, 4097);
     longer.initial = 2;
@@ -186,7 +191,7 @@ fn most_places() {
                 _ => (1, hint),
             };
             let numbers = [1, 6, 2, 1, accepted];
-            expect(&model_c(), terms, numbers, &[(blocker, 1)], &[0, 1]);
+            expect(&model_c(), terms, numbers, &[(blocker, 1, 2)], &[0, 1]);
         }
     }
 }
@@ -210,21 +215,25 @@ fn one_place_too_many() {
     }
 }
 
-/// What the run of the rings of 2, 3 and 5 states holds at its end, each blocker as mask@level.
+/// What the run of the rings of 2, 3 and 5 states holds at its end, each blocker as mask@level:entered.
 const RINGS_2_3_5: &str = "\
-    927@1 799@2 543@3 983@1 911@2 827@3 599@4 59@4 87@5 143@6 283@7 535@8 171@5 339@6 647@7 \
-    299@8 595@9 43@9 83@10 135@11 267@12 531@13 989@1 958@2 861@3 702@4 377@5 726@6 397@7 794@8 \
-    533@9 46@10 89@11 150@12 269@13 538@14 561@9 102@10 201@11 402@12 773@13 554@14 113@15 \
-    198@16 393@17 786@18 38@14 73@15 146@16 261@17 522@18 49@19 70@20 137@21 274@22 517@23 42@24 \
-    81@25 134@26 265@27 530@28";
+    927@1:2 799@2:5 543@3:8 983@1:14 911@2:15 827@3:16 599@4:17 59@4:35 87@5:36 143@6:37 283@7:38 \
+    535@8:39 171@5:46 339@6:47 647@7:48 299@8:49 595@9:50 43@9:68 83@10:69 135@11:70 267@12:71 \
+    531@13:72 989@1:88 958@2:89 861@3:90 702@4:91 377@5:92 726@6:93 397@7:94 794@8:95 533@9:96 \
+    46@10:97 89@11:98 150@12:99 269@13:100 538@14:101 561@9:113 102@10:114 201@11:115 402@12:116 \
+    773@13:117 554@14:118 113@15:119 198@16:120 393@17:121 786@18:122 38@14:168 73@15:169 \
+    146@16:170 261@17:171 522@18:172 49@19:173 70@20:174 137@21:175 274@22:176 517@23:177 \
+    42@24:178 81@25:179 134@26:180 265@27:181 530@28:182";
 
 #[test]
 fn rings_2_3_5() {
     let entry = |entry: &str| {
-        let (mask, level) = entry.split_once('@').unwrap();
-        (mask.parse().unwrap(), level.parse().unwrap())
+        let (mask, rest) = entry.split_once('@').unwrap();
+        let (level, entered) = rest.split_once(':').unwrap();
+        let [mask, entered] = [mask, entered].map(|number| number.parse().unwrap());
+        (mask, level.parse().unwrap(), entered)
     };
-    let entries: Vec<(u64, u32)> = RINGS_2_3_5.split_whitespace().map(entry).collect();
+    let entries: Vec<Entry> = RINGS_2_3_5.split_whitespace().map(entry).collect();
     let model = rings(&[2, 3, 5]);
     expect(&model, PROGRAM, [1, 219, 29, 61, 0], &entries, &[0; 29]);
 }

@@ -33,7 +33,7 @@ fn random_models() {
         for run in 0..RUNS {
             let mut lent = lent(&mut random, &model, &earlier, affordable);
             if number % 1_000 == 0 {
-                let [masks, _, cases, _] = lent.before.lengths();
+                let [masks, _, _, cases, _] = lent.before.lengths();
                 let (masks, cases) = random.pick(&[(65_536, cases), (masks, 65_536)]);
                 lent.before = Tables::filled(&mut random, masks, cases);
                 lent.allowance = lent.allowance.min(affordable);

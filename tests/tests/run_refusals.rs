@@ -9,41 +9,63 @@ use afa_tests::image::{broken_model_c, model_c, Model};
 use afa_tests::random::Random;
 use afa_tests::tables::{Answer, Lent, Tables};
 
-/// Lengths of the four tables and of the hints, and the number that they give on a valid image.
-const LENGTHS: [([usize; 5], Option<u64>); 27] = [
-    ([4, 4, 4, 4, 2], None),
-    ([0, 0, 0, 0, 0], None),
-    ([65_536, 65_536, 65_536, 65_536, 65_536], None),
-    ([4, 5, 4, 4, 0], Some(30)),
-    ([5, 4, 4, 4, 0], Some(30)),
-    ([4, 4, 4, 5, 0], Some(30)),
-    ([4, 4, 5, 4, 0], Some(30)),
-    ([0, 1, 0, 0, 0], Some(30)),
-    ([1, 0, 0, 0, 0], Some(30)),
-    ([0, 0, 0, 1, 0], Some(30)),
-    ([0, 0, 1, 0, 0], Some(30)),
-    ([4, 5, 5, 4, 0], Some(30)),
-    ([4, 9, 9, 4, 0], Some(30)),
-    ([4, 9, 4, 9, 0], Some(30)),
-    ([65_537, 65_537, 4, 4, 0], Some(31)),
-    ([4, 4, 65_537, 65_537, 0], Some(31)),
-    ([4, 4, 4, 4, 65_537], Some(31)),
-    ([65_537, 65_537, 65_537, 65_537, 65_537], Some(31)),
-    ([131_072, 131_072, 4, 4, 0], Some(31)),
-    ([4, 4, 131_072, 131_072, 131_072], Some(31)),
-    ([65_537, 65_537, 4, 5, 0], Some(30)),
-    ([4, 5, 65_537, 65_537, 0], Some(30)),
-    ([4, 5, 4, 4, 65_537], Some(30)),
-    ([65_536, 65_537, 4, 4, 0], Some(30)),
-    ([65_537, 65_536, 4, 4, 0], Some(30)),
-    ([65_540, 4, 4, 4, 0], Some(30)),
-    ([4, 4, 4, 65_540, 0], Some(30)),
+/// Lengths of masks, levels, entered, cases, symbols and hints, and the number that they give on a valid
+/// image.
+const LENGTHS: [([usize; 6], Option<u64>); 43] = [
+    ([4, 4, 4, 4, 4, 2], None),
+    ([0, 0, 0, 0, 0, 0], None),
+    ([65_536, 65_536, 65_536, 65_536, 65_536, 65_536], None),
+    // One of the three tables of blocker room, longer or shorter than the other two.
+    ([5, 4, 4, 4, 4, 0], Some(30)),
+    ([4, 5, 4, 4, 4, 0], Some(30)),
+    ([4, 4, 5, 4, 4, 0], Some(30)),
+    ([3, 4, 4, 4, 4, 0], Some(30)),
+    ([4, 3, 4, 4, 4, 0], Some(30)),
+    ([4, 4, 3, 4, 4, 0], Some(30)),
+    ([1, 0, 0, 0, 0, 0], Some(30)),
+    ([0, 1, 0, 0, 0, 0], Some(30)),
+    ([0, 0, 1, 0, 0, 0], Some(30)),
+    ([0, 1, 1, 0, 0, 0], Some(30)),
+    ([1, 0, 1, 0, 0, 0], Some(30)),
+    ([1, 1, 0, 0, 0, 0], Some(30)),
+    // All three unlike.
+    ([3, 4, 5, 4, 4, 0], Some(30)),
+    ([5, 3, 4, 4, 4, 0], Some(30)),
+    ([4, 5, 3, 4, 4, 0], Some(30)),
+    // Word room, and both rooms.
+    ([4, 4, 4, 4, 5, 0], Some(30)),
+    ([4, 4, 4, 5, 4, 0], Some(30)),
+    ([0, 0, 0, 0, 1, 0], Some(30)),
+    ([0, 0, 0, 1, 0, 0], Some(30)),
+    ([4, 5, 4, 5, 4, 0], Some(30)),
+    ([4, 9, 9, 9, 4, 0], Some(30)),
+    ([4, 4, 9, 4, 9, 0], Some(30)),
+    // Too many places.
+    ([65_537, 65_537, 65_537, 4, 4, 0], Some(31)),
+    ([4, 4, 4, 65_537, 65_537, 0], Some(31)),
+    ([4, 4, 4, 4, 4, 65_537], Some(31)),
+    ([65_537; 6], Some(31)),
+    ([131_072, 131_072, 131_072, 4, 4, 0], Some(31)),
+    ([4, 4, 4, 131_072, 131_072, 131_072], Some(31)),
+    // Both, of which unlike lengths come first.
+    ([65_537, 65_537, 65_537, 4, 5, 0], Some(30)),
+    ([4, 5, 4, 65_537, 65_537, 0], Some(30)),
+    ([4, 4, 5, 65_537, 65_537, 0], Some(30)),
+    ([4, 5, 4, 4, 4, 65_537], Some(30)),
+    ([4, 4, 5, 4, 4, 65_537], Some(30)),
+    ([65_537, 65_536, 65_536, 4, 4, 0], Some(30)),
+    ([65_536, 65_537, 65_536, 4, 4, 0], Some(30)),
+    ([65_536, 65_536, 65_537, 4, 4, 0], Some(30)),
+    ([65_537, 65_537, 65_536, 4, 4, 0], Some(30)),
+    ([65_540, 4, 4, 4, 4, 0], Some(30)),
+    ([4, 4, 65_540, 4, 4, 0], Some(30)),
+    ([4, 4, 4, 4, 65_540, 0], Some(30)),
 ];
 
-fn lent(random: &mut Random, lengths: [usize; 5]) -> Lent {
-    let [masks, levels, cases, symbols, hints] = lengths;
+fn lent(random: &mut Random, lengths: [usize; 6]) -> Lent {
+    let [masks, levels, entered, cases, symbols, hints] = lengths;
     Lent {
-        before: Tables::filled_unevenly(random, [masks, levels, cases, symbols]),
+        before: Tables::filled_unevenly(random, [masks, levels, entered, cases, symbols]),
         hints: (0..hints).map(|_| random.number()).collect(),
         allowance: random.pick(&[0, 1, 100_000, u64::MAX]),
     }
@@ -79,11 +101,13 @@ fn checks_come_first() {
     let mut comparison = Comparison::default();
     let accepting = Model::plain(1, 1, 0);
     for (lengths, number) in [
-        ([0, 1, 0, 0, 0], 30),
-        ([0, 0, 1, 0, 0], 30),
-        ([65_537, 65_537, 0, 0, 0], 31),
-        ([0, 0, 65_537, 65_537, 0], 31),
-        ([0, 0, 0, 0, 65_537], 31),
+        ([1, 0, 0, 0, 0, 0], 30),
+        ([0, 1, 0, 0, 0, 0], 30),
+        ([0, 0, 1, 0, 0, 0], 30),
+        ([0, 0, 0, 1, 0, 0], 30),
+        ([65_537, 65_537, 65_537, 0, 0, 0], 31),
+        ([0, 0, 0, 65_537, 65_537, 0], 31),
+        ([0, 0, 0, 0, 0, 65_537], 31),
     ] {
         for allowance in [0, 1] {
             let mut lent = lent(&mut random, lengths);
@@ -143,12 +167,16 @@ fn damaged_images() {
             origin = origin + ": " + name;
         }
         let [blocker_room, word_room, hints] = [6, 6, 12].map(|bound| random.below(bound));
-        let lengths = [blocker_room, blocker_room, word_room, word_room, hints];
+        let [masks, levels, entered] = [blocker_room; 3];
+        let lengths = [masks, levels, entered, word_room, word_room, hints];
         let mut lent = lent(&mut random, lengths);
         lent.allowance = lent.allowance.min(20);
-        match random.below(8) {
+        match random.below(20) {
             0 => lent.before.masks.push(7),
-            1 => lent.before.symbols.push(7),
+            1 => lent.before.levels.push(7),
+            2 => lent.before.entered.push(7),
+            3 => lent.before.cases.push(7),
+            4 => lent.before.symbols.push(7),
             _ => {}
         }
         let (answer, after) = comparison.run(&image, &lent, &origin);
@@ -170,14 +198,16 @@ fn lengths_that_fit_when_cut() {
     let image = model_c().image();
     let memory = Untouchable::with_room(LONG * size_of::<u64>());
     for (lengths, number) in [
-        ([LONG, LONG, 4, 4, 4], 31),
-        ([4, 4, LONG, LONG, 4], 31),
-        ([4, 4, 4, 4, LONG], 31),
-        ([LONG; 5], 31),
-        ([LONG, 4, 4, 4, 4], 30),
-        ([4, LONG, 4, 4, 4], 30),
-        ([4, 4, LONG, 4, 4], 30),
-        ([4, 4, 4, LONG, 4], 30),
+        ([LONG, LONG, LONG, 4, 4, 4], 31),
+        ([4, 4, 4, LONG, LONG, 4], 31),
+        ([4, 4, 4, 4, 4, LONG], 31),
+        ([LONG; 6], 31),
+        ([LONG, 4, 4, 4, 4, 4], 30),
+        ([4, LONG, 4, 4, 4, 4], 30),
+        ([4, 4, LONG, 4, 4, 4], 30),
+        ([LONG, LONG, 4, 4, 4, 4], 30),
+        ([4, 4, 4, LONG, 4, 4], 30),
+        ([4, 4, 4, 4, LONG, 4], 30),
     ] {
         for edge in EDGES {
             let mut counts = [7; 4];

@@ -18,12 +18,11 @@ use Rattle.lists.proofs.Tests.{is-true, choose-true, choose-false}
 use Rattle.masks.specs.Sets.{subset, full}
 use Rattle.masks.proofs.Laws.{below-within, within-full}
 use Rattle.machine.specs.Machine.{Blocker, leaves, staying, risen, frame}
-use Rattle.machine.specs.Lent.{blockersFrom}
+use Rattle.machine.specs.Lent.{BlockerRoom, EvenRoom, blockerOf, blockerAt, blockersFrom}
 use Rattle.blockers.specs.declared.Entered.{Entered}
 use Rattle.blockers.specs.declared.Entered.the-variants.{Held, Full}
 use Rattle.blockers.specs.Room.{
-  Holds,
-  blockerAt,
+  HoldsRoom,
   tableOf,
   Placed,
   Put,
@@ -37,15 +36,16 @@ use Rattle.blockers.specs.Room.{
   RisesAt,
   Frames,
 }
+use Rattle.blockers.proofs.Closing.{AsLong, long-holds, put-long}
 use Rattle.blockers.proofs.Placing.{
   blockers-length,
   stay-whole,
+  holds-fewer,
   placed-first,
   placed-rest,
-  placed-masks-length,
+  placed-long,
   placed-put,
-  same-masks,
-  same-levels,
+  own-room,
   close-count,
   close-placed,
   close-behind,
@@ -53,43 +53,64 @@ use Rattle.blockers.proofs.Placing.{
 }
 
 -- Y enters: no place is left for it, or it stands behind those that stayed
-module _ {Y : Blocker} {held end : ℕ} {masks levels masks′ levels′ : List ℕ} (closed : ClosedUp Y 0 0 held end masks levels masks′ levels′)
-    (asked : Holds held masks levels × (length masks ≡ length levels)) where
-  entering-length : length (entering Y (tableOf held masks levels)) ≡ end + 1
+module _ {mask level held end : ℕ} {room room′ : BlockerRoom} (closed : ClosedUp (blockerOf mask level) 0 0 held end room room′)
+    (asked : HoldsRoom held room × EvenRoom room) where
+  enter-long : AsLong room room′
+  enter-long =
+      placed-long (staying (blockerOf mask level) (tableOf held room)) (close-placed closed) (asked .0)
+      (holds-fewer (omega (arith, close-count closed, closed .few)) (asked .0))
+
+  -- there is a place for it
+  pub enter-room : end < length (room′ .masks) → HoldsRoom (end + 1) room′
+  enter-room l = record {
+    read = record { in-masks = omega arith; in-levels = omega (arith, enter-long .masks, enter-long .levels, asked .1 .levels) };
+    in-entered = omega (arith, enter-long .masks, enter-long .entered, asked .1 .entered);
+  }
+
+module _ {mask level held end : ℕ} {room room′ : BlockerRoom} (closed : ClosedUp (blockerOf mask level) 0 0 held end room room′)
+    (asked : HoldsRoom held room × EvenRoom room) where
+  -- who stays does not depend on when Y entered
+  same-closed : (step : ℕ) → ClosedUp (record { mask = mask; level = level; entered = step }) 0 0 held end room room′
+  unfolding staying leaves
+  same-closed step = record { count = closed .count; few = closed .few; tables = closed .tables }
+
+  entering-length : (step : ℕ) → length (entering (record { mask = mask; level = level; entered = step }) (tableOf held room)) ≡ end + 1
   unfolding entering
-  entering-length = omega (arith, length-append (staying Y (tableOf held masks levels)) (Y ∷ []), close-count closed)
+  entering-length step =
+      let Y : Blocker = record { mask = mask; level = level; entered = step } in
+      omega (arith, length-append (staying Y (tableOf held room)) (Y ∷ []), close-count (same-closed step))
 
-  long : length masks′ ≡ length masks
-  long =
-      placed-masks-length (staying Y (tableOf held masks levels)) (close-placed closed) (asked .0 .in-masks)
-      (omega (arith, close-count closed, closed .few, asked .0 .in-masks))
-
-  pub enter-full : length masks′ ≤ end → Enters held Y masks levels Full masks′ levels′
+  pub enter-full : {step : ℕ} → length (room′ .masks) ≤ end → Enters held (record { mask = mask; level = level; entered = step }) room Full room′
   unfolding enteredAnswer enteredTable
-  enter-full l =
-      let table : List Blocker = tableOf held masks levels in
-      let lacking : length masks < length (entering Y table) = omega (arith, long, entering-length) in
+  enter-full {step} l =
+      let Y : Blocker = record { mask = mask; level = level; entered = step } in
+      let table : List Blocker = tableOf held room in
+      let lacking : length (room .masks) < length (entering Y table) = omega (arith, enter-long closed asked .masks, entering-length step) in
       let all : staying Y table ≡ table =
-      stay-whole Y table (omega (arith, long, close-count closed, asked .0 .in-masks, blockers-length masks levels held 0)) in
-      let lacks : leb (length (entering Y table)) (length masks) ≡ false = lt-leb (length (entering Y table)) (length masks) lacking in
+      stay-whole Y table (omega (arith, enter-long closed asked .masks, close-count (same-closed step), asked .0 .read .in-masks, blockers-length room held 0)) in
+      let lacks : leb (length (entering Y table)) (length (room .masks)) ≡ false = lt-leb (length (entering Y table)) (length (room .masks)) lacking in
       record {
         answers = sym (choose-false (Held (length (entering Y table))) Full lacks);
-        tables = subst (λ (new : List Blocker). Placed held new masks levels masks′ levels′)
-            (all ∙ sym (choose-false (entering Y table) table lacks)) (close-placed closed);
+        tables = subst (λ (new : List Blocker). Placed held new room room′) (all ∙ sym (choose-false (entering Y table) table lacks))
+            (close-placed (same-closed step));
       }
 
-  pub enter-held : {masks″ levels″ : List ℕ} → Put Y end masks′ levels′ masks″ levels″ → end < length masks′
-      → Enters held Y masks levels (Held (end + 1)) masks″ levels″
+  pub enter-held : {step : ℕ} {room″ : BlockerRoom} → Put (record { mask = mask; level = level; entered = step }) end room′ room″ → end < length (room′ .masks) → Enters held (record { mask = mask; level = level; entered = step }) room (Held (end + 1)) room″
   unfolding enteredAnswer enteredTable entering
-  enter-held {masks″} {levels″} put l =
-      let table : List Blocker = tableOf held masks levels in
+  enter-held {step} {room″} put l =
+      let Y : Blocker = record { mask = mask; level = level; entered = step } in
+      let table : List Blocker = tableOf held room in
       let new : List Blocker = staying Y table ++ Y ∷ [] in
-      let same : length masks ≡ length levels = asked .1 in
-      let room : leb (length new) (length masks) ≡ true = le-leb (length new) (length masks) (omega (arith, long, entering-length)) in
+      let place : HoldsRoom (suc end) room = record {
+        read = record { in-masks = omega (arith, enter-long closed asked .masks); in-levels = omega (arith, enter-long closed asked .masks, asked .1 .levels) };
+        in-entered = omega (arith, enter-long closed asked .masks, asked .1 .entered);
+      } in
+      let room-left : leb (length new) (length (room .masks)) ≡ true
+      = le-leb (length new) (length (room .masks)) (omega (arith, enter-long closed asked .masks, entering-length step)) in
       record {
-        answers = ap Held (sym entering-length) ∙ sym (choose-true (Held (length new)) Full room);
-        tables = subst (λ (t : List Blocker). Placed held t masks levels masks″ levels″) (sym (choose-true new table room))
-            (placed-put (close-placed closed) put (close-count closed) (asked .0) (omega (arith, long)) (omega (arith, long)));
+        answers = ap Held (sym (entering-length step)) ∙ sym (choose-true (Held (length new)) Full room-left);
+        tables = subst (λ (t : List Blocker). Placed held t room room″) (sym (choose-true new table room-left))
+            (placed-put (close-placed (same-closed step)) put (close-count (same-closed step)) (asked .0) place);
       }
 
 -- What a caller learns from the answer: whether there was room, the new count, and what stands in the tables.
@@ -103,145 +124,162 @@ unfolding choose
 choice-full true n e = let z : _≡_ {A = ℕ} 0 1 = cc in absurd (omega arith)
 choice-full false n e = refl
 
-module _ {held : ℕ} {Y : Blocker} {masks levels : List ℕ} {answer : Entered} {masks′ levels′ : List ℕ}
-    (enters : Enters held Y masks levels answer masks′ levels′) where
+module _ {held : ℕ} {Y : Blocker} {room : BlockerRoom} {answer : Entered} {room′ : BlockerRoom}
+    (enters : Enters held Y room answer room′) where
   module _ {count : ℕ} (e : answer ≡ Held count) where
-    held-choice : (leb (length (entering Y (tableOf held masks levels))) (length masks) ≡ true)
-        × (count ≡ length (entering Y (tableOf held masks levels)))
+    held-choice : (leb (length (entering Y (tableOf held room))) (length (room .masks)) ≡ true)
+        × (count ≡ length (entering Y (tableOf held room)))
     unfolding enteredAnswer
-    held-choice = choice-held (leb (length (entering Y (tableOf held masks levels))) (length masks)) (sym (enters .answers) ∙ e)
+    held-choice = choice-held (leb (length (entering Y (tableOf held room))) (length (room .masks))) (sym (enters .answers) ∙ e)
 
-    pub held-room : leb (length (entering Y (tableOf held masks levels))) (length masks) ≡ true
+    pub held-room : leb (length (entering Y (tableOf held room))) (length (room .masks)) ≡ true
     held-room = held-choice .0
 
-    pub held-count : count ≡ length (entering Y (tableOf held masks levels))
+    pub held-count : count ≡ length (entering Y (tableOf held room))
     held-count = held-choice .1
 
-    pub held-fits : count ≤ length masks
-    held-fits = omega (arith, held-count, leb-true (length (entering Y (tableOf held masks levels))) (length masks) held-room)
+    pub held-fits : count ≤ length (room .masks)
+    held-fits = omega (arith, held-count, leb-true (length (entering Y (tableOf held room))) (length (room .masks)) held-room)
 
-    pub held-placed : Placed held (entering Y (tableOf held masks levels)) masks levels masks′ levels′
+    pub held-placed : Placed held (entering Y (tableOf held room)) room room′
     unfolding enteredTable
     held-placed =
-        subst (λ (table : List Blocker). Placed held table masks levels masks′ levels′)
-        (choose-true (entering Y (tableOf held masks levels)) (tableOf held masks levels) held-room) (enters .tables)
+        subst (λ (table : List Blocker). Placed held table room room′)
+        (choose-true (entering Y (tableOf held room)) (tableOf held room) held-room) (enters .tables)
 
   module _ (e : answer ≡ Full) where
-    pub full-room : leb (length (entering Y (tableOf held masks levels))) (length masks) ≡ false
+    pub full-room : leb (length (entering Y (tableOf held room))) (length (room .masks)) ≡ false
     unfolding enteredAnswer
     full-room =
-        choice-full (leb (length (entering Y (tableOf held masks levels))) (length masks)) (length (entering Y (tableOf held masks levels)))
+        choice-full (leb (length (entering Y (tableOf held room))) (length (room .masks))) (length (entering Y (tableOf held room)))
         (sym (enters .answers) ∙ e)
 
-    full-placed : Placed held (tableOf held masks levels) masks levels masks′ levels′
+    full-placed : Placed held (tableOf held room) room room′
     unfolding enteredTable
     full-placed =
-        subst (λ (table : List Blocker). Placed held table masks levels masks′ levels′)
-        (choose-false (entering Y (tableOf held masks levels)) (tableOf held masks levels) full-room) (enters .tables)
+        subst (λ (table : List Blocker). Placed held table room room′)
+        (choose-false (entering Y (tableOf held room)) (tableOf held room) full-room) (enters .tables)
 
-    pub full-masks : Holds held masks levels → masks′ ≡ masks
-    full-masks holds = same-masks holds full-placed
-
-    pub full-levels : Holds held masks levels → levels′ ≡ levels
-    full-levels holds = same-levels holds full-placed
+    pub full-room-stays : HoldsRoom held room → room′ ≡ room
+    full-room-stays holds = full-placed .tables ∙ own-room holds
 
 -- the blocker at a place rises to a level
-module _ {held place level stands : ℕ} {masks levels masks′ levels′ : List ℕ}
-    (asked : Holds held masks levels × (place < held) × (getD levels place 0 < 4294967295)) (above : level ≡ getD levels place 0 + 1)
-    (passed : ClosedUp (record { mask = getD masks place 0; level = level }) 0 0 place stands masks levels masks′ levels′) where
-  same-risen : record { mask = getD masks place 0; level = level } ≡ risen (blockerAt masks levels place)
-  unfolding risen
-  same-risen = ap (λ (n : ℕ). record { mask = getD masks place 0; level = n }) (above ∙ add-one (getD levels place 0))
+module _ {held place level stands : ℕ} {room room′ : BlockerRoom}
+    (asked : HoldsRoom held room × (place < held) × (getD (room .levels) place 0 < 4294967295)) (above : level ≡ getD (room .levels) place 0 + 1)
+    (passed : ClosedUp (blockerOf (getD (room .masks) place 0) level) 0 0 place stands room room′) where
+  abbrev R : Blocker
+  R = record { mask = getD (room .masks) place 0; level = level; entered = getD (room .entered) place 0 }
 
-  pub rises-at : {end : ℕ} {masks″ levels″ masks‴ levels‴ : List ℕ}
-      → Put (record { mask = getD masks place 0; level = level }) stands masks′ levels′ masks″ levels″
-      → ClosedUp (record { mask = getD masks place 0; level = level }) (stands + 1) (place + 1) held end masks″ levels″ masks‴ levels‴
-      → RisesAt held place masks levels end stands masks‴ levels‴
-  unfolding risenAmong
-  rises-at {end} {masks″} {levels″} {masks‴} {levels‴} put ahead =
-      let R : Blocker = record { mask = getD masks place 0; level = level } in
-      let first : List Blocker = staying R (tableOf place masks levels) ++ R ∷ [] in
-      let others : List Blocker = blockersFrom masks levels (held - (place + 1)) (place + 1) in
-      let short : stands ≤ place = omega arith in
-      let in-masks : held ≤ length masks = asked .0 .in-masks in
-      let in-levels : held ≤ length levels = asked .0 .in-levels in
-      let count : stands + 1 ≡ length first = omega (arith, close-count passed, length-append (staying R (tableOf place masks levels)) (R ∷ [])) in
-      let holds : Holds place masks levels = record { in-masks = omega arith; in-levels = omega arith } in
-      let new : Placed place first masks levels masks″ levels″ =
-      placed-put (close-placed passed) put (close-count passed) holds (omega arith) (omega arith) in
-      let whole : first ++ staying R others ≡ risenTable held masks levels place =
-      append-snoc (staying R (tableOf place masks levels)) R (staying R others)
-      ∙ ap (λ (r : Blocker). staying r (tableOf place masks levels) ++ r ∷ staying r others) same-risen in
+  same-risen : R ≡ risen (blockerAt room place)
+  unfolding risen
+  same-risen =
+      ap (λ (n : ℕ). record { mask = getD (room .masks) place 0; level = n; entered = getD (room .entered) place 0 })
+      (above ∙ add-one (getD (room .levels) place 0))
+
+  first-closed : ClosedUp R 0 0 place stands room room′
+  unfolding staying leaves
+  first-closed = record { count = passed .count; few = passed .few; tables = passed .tables }
+
+  before : HoldsRoom place room
+  before = holds-fewer (omega (arith, asked .1)) (asked .0)
+
+  -- it has a place of its own then, and the others behind it theirs
+  rise-long : AsLong room room′
+  rise-long =
+      placed-long (staying R (tableOf place room)) (close-placed first-closed) before
+      (holds-fewer (omega (arith, close-count first-closed, passed .few)) before)
+
+  pub rise-room : HoldsRoom (stands + 1) room′
+  rise-room = holds-fewer (omega (arith, passed .few, asked .1)) (long-holds rise-long (asked .0))
+
+  pub rise-behind : {Y : Blocker} {room″ : BlockerRoom} → Put Y stands room′ room″
+      → (stands + 1 ≤ place + 1) × (place + 1 ≤ held) × HoldsRoom held room″
+  rise-behind put = (omega (arith, passed .few), omega (arith, asked .1), long-holds (put-long put rise-long) (asked .0))
+
+  pub rises-at : {end : ℕ} {room″ room‴ : BlockerRoom} → Put R stands room′ room″
+      → ClosedUp (blockerOf (getD (room .masks) place 0) level) (stands + 1) (place + 1) held end room″ room‴
+      → RisesAt held place room end stands room‴
+  unfolding risenAmong staying leaves
+  rises-at {end} {room″} {room‴} put ahead =
+      let first : List Blocker = staying R (tableOf place room) ++ R ∷ [] in
+      let others : List Blocker = blockersFrom room (held - (place + 1)) (place + 1) in
+      let short : stands ≤ place = omega (arith, passed .few) in
+      let count : stands + 1 ≡ length first =
+      omega (arith, close-count first-closed, length-append (staying R (tableOf place room)) (R ∷ [])) in
+      let fits : HoldsRoom (suc stands) room = holds-fewer (omega (arith, asked .1)) (asked .0) in
+      let new : Placed place first room room″ = placed-put (close-placed first-closed) put (close-count first-closed) before fits in
+      let closed : ClosedUp R (stands + 1) (place + 1) held end room″ room‴
+      = record { count = ahead .count; few = ahead .few; tables = ahead .tables } in
+      let whole : first ++ staying R others ≡ risenTable held room place =
+      append-snoc (staying R (tableOf place room)) R (staying R others)
+      ∙ ap (λ (r : Blocker). staying r (tableOf place room) ++ r ∷ staying r others) same-risen in
       record {
-        count = close-behind-count new ahead count (omega arith) (omega arith) ∙ ap length whole;
-        stands = close-count passed ∙ ap (λ (r : Blocker). length (staying r (tableOf place masks levels))) same-risen;
-        tables = subst (λ (table : List Blocker). Placed held table masks levels masks‴ levels‴) whole
-            (close-behind new ahead count (omega arith) (omega arith) (omega arith));
-        few = omega (arith, ahead .few);
+        count = close-behind-count new closed before count (omega arith) (omega arith) ∙ ap length whole;
+        stands = close-count first-closed ∙ ap (λ (r : Blocker). length (staying r (tableOf place room))) same-risen;
+        tables = subst (λ (table : List Blocker). Placed held table room room‴) whole
+            (close-behind new closed before count (omega arith) (omega arith) (omega (arith, asked .1)));
+        few = omega (arith, ahead .few, asked .1);
         below = omega (arith, ahead .count);
-        left = omega (arith, ahead .few);
+        left = omega (arith, ahead .few, asked .1);
       }
 
 -- What a caller reads after a rise, as the walk along the table goes on: the blockers up to the risen one, and those behind it.
-module _ {held place : ℕ} {masks levels : List ℕ} {held′ place′ : ℕ} {masks′ levels′ : List ℕ}
-    (rises : RisesAt held place masks levels held′ place′ masks′ levels′) where
-  pub risen-passed : blockersFrom masks′ levels′ (place′ + 1) 0
-      ≡ staying (risen (blockerAt masks levels place)) (blockersFrom masks levels place 0) ++ risen (blockerAt masks levels place) ∷ []
+module _ {held place : ℕ} {room : BlockerRoom} {held′ place′ : ℕ} {room′ : BlockerRoom} (rises : RisesAt held place room held′ place′ room′) where
+  pub risen-passed : blockersFrom room′ (place′ + 1) 0
+      ≡ staying (risen (blockerAt room place)) (blockersFrom room place 0) ++ risen (blockerAt room place) ∷ []
   unfolding risenAmong
   risen-passed =
-      let R : Blocker = risen (blockerAt masks levels place) in
-      let first : List Blocker = staying R (blockersFrom masks levels place 0) in
-      let others : List Blocker = staying R (blockersFrom masks levels (held - (place + 1)) (place + 1)) in
+      let R : Blocker = risen (blockerAt room place) in
+      let first : List Blocker = staying R (blockersFrom room place 0) in
+      let others : List Blocker = staying R (blockersFrom room (held - (place + 1)) (place + 1)) in
       let count : place′ + 1 ≡ length (first ++ R ∷ []) = omega (arith, rises .stands, length-append first (R ∷ [])) in
-      ap (λ (k : ℕ). blockersFrom masks′ levels′ k 0) count
+      ap (λ (k : ℕ). blockersFrom room′ k 0) count
       ∙ placed-first (first ++ R ∷ []) others
-      (subst (λ (table : List Blocker). Placed held table masks levels masks′ levels′) (sym (append-snoc first R others)) (rises .tables))
+      (subst (λ (table : List Blocker). Placed held table room room′) (sym (append-snoc first R others)) (rises .tables))
 
-  pub risen-ahead : blockersFrom masks′ levels′ (held′ - (place′ + 1)) (place′ + 1)
-      ≡ staying (risen (blockerAt masks levels place)) (blockersFrom masks levels (held - (place + 1)) (place + 1))
+  pub risen-ahead : blockersFrom room′ (held′ - (place′ + 1)) (place′ + 1)
+      ≡ staying (risen (blockerAt room place)) (blockersFrom room (held - (place + 1)) (place + 1))
   unfolding risenAmong
   risen-ahead =
-      let R : Blocker = risen (blockerAt masks levels place) in
-      let first : List Blocker = staying R (blockersFrom masks levels place 0) in
-      let others : List Blocker = staying R (blockersFrom masks levels (held - (place + 1)) (place + 1)) in
+      let R : Blocker = risen (blockerAt room place) in
+      let first : List Blocker = staying R (blockersFrom room place 0) in
+      let others : List Blocker = staying R (blockersFrom room (held - (place + 1)) (place + 1)) in
       let start : place′ + 1 ≡ length (first ++ R ∷ []) = omega (arith, rises .stands, length-append first (R ∷ [])) in
       let count : held′ - (place′ + 1) ≡ length others = omega (arith, rises .count, rises .stands, length-append first (R ∷ others)) in
-      ap₂ (λ (k at : ℕ). blockersFrom masks′ levels′ k at) count start
+      ap₂ (λ (k at : ℕ). blockersFrom room′ k at) count start
       ∙ placed-rest (first ++ R ∷ []) others
-      (subst (λ (table : List Blocker). Placed held table masks levels masks′ levels′) (sym (append-snoc first R others)) (rises .tables))
+      (subst (λ (table : List Blocker). Placed held table room room′) (sym (append-snoc first R others)) (rises .tables))
 
 -- only those above a level stay
-module _ (j : ℕ) (masks levels : List ℕ) (fits : (i : ℕ) → Fits w64 (getD masks i 0)) where
-  in-full : (i : ℕ) → subset (getD masks i 0) 18446744073709551615 ≡ true
+module _ (j : ℕ) (room : BlockerRoom) (fits : (i : ℕ) → Fits w64 (getD (room .masks) i 0)) where
+  in-full : (i : ℕ) → subset (getD (room .masks) i 0) 18446744073709551615 ≡ true
   unfolding full
   in-full i =
-      let below : getD masks i 0 < 18446744073709551616 = omega (arith, fits i) in
-      is-true _ (within-full 64 (getD masks i 0) (below-within 64 (getD masks i 0) below))
+      let below : getD (room .masks) i 0 < 18446744073709551616 = omega (arith, fits i) in
+      is-true _ (within-full 64 (getD (room .masks) i 0) (below-within 64 (getD (room .masks) i 0) below))
 
-  above : (i : ℕ) → neg (leaves (record { mask = 18446744073709551615; level = j }) (blockerAt masks levels i)) ≡ ltb j (getD levels i 0)
+  above : (i : ℕ) → neg (leaves (blockerOf 18446744073709551615 j) (blockerAt room i)) ≡ ltb j (getD (room .levels) i 0)
   unfolding leaves _and_ neg
-  above i = at (decLe (getD levels i 0) j)
+  above i = at (decLe (getD (room .levels) i 0) j)
     where
-      at : Dec (getD levels i 0 ≤ j)
-          → neg (leaves (record { mask = 18446744073709551615; level = j }) (blockerAt masks levels i)) ≡ ltb j (getD levels i 0)
-      at (yes l) = rw (le-leb (getD levels i 0) j l, in-full i, le-ltb j (getD levels i 0) l)
-      at (no l) = let h : j < getD levels i 0 = omega arith in rw (lt-leb (getD levels i 0) j h, lt-ltb j (getD levels i 0) h)
+      at : Dec (getD (room .levels) i 0 ≤ j) → neg (leaves (blockerOf 18446744073709551615 j) (blockerAt room i)) ≡ ltb j (getD (room .levels) i 0)
+      at (yes l) = rw (le-leb (getD (room .levels) i 0) j l, in-full i, le-ltb j (getD (room .levels) i 0) l)
+      at (no l) =
+          let h : j < getD (room .levels) i 0 = omega arith in
+          rw (lt-leb (getD (room .levels) i 0) j h, lt-ltb j (getD (room .levels) i 0) h)
 
-  stay-above : (count at : ℕ)
-      → staying (record { mask = 18446744073709551615; level = j }) (blockersFrom masks levels count at) ≡ frame j (blockersFrom masks levels count at)
+  stay-above : (count at : ℕ) → staying (blockerOf 18446744073709551615 j) (blockersFrom room count at) ≡ frame j (blockersFrom room count at)
   unfolding staying frame keep blockersFrom
   stay-above zero at = refl
   stay-above (suc count) at =
-      ap₂ (λ (b : Bool) (rest : List Blocker). choose b (blockerAt masks levels at ∷ rest) rest) (above at) (stay-above count (suc at))
+      ap₂ (λ (b : Bool) (rest : List Blocker). choose b (blockerAt room at ∷ rest) rest) (above at) (stay-above count (suc at))
 
-pub framed : {j held end : ℕ} {masks levels masks′ levels′ : List ℕ}
-    → ClosedUp (record { mask = 18446744073709551615; level = j }) 0 0 held end masks levels masks′ levels′
-    → ((i : ℕ) → Fits w64 (getD masks i 0)) → Frames held j masks levels end masks′ levels′
-framed {j} {held} {end} {masks} {levels} {masks′} {levels′} closed fits =
-    let same : staying (record { mask = 18446744073709551615; level = j }) (tableOf held masks levels) ≡ frame j (tableOf held masks levels) =
-    stay-above j masks levels fits held 0 in
+pub framed : {j held end : ℕ} {room room′ : BlockerRoom} → ClosedUp (blockerOf 18446744073709551615 j) 0 0 held end room room′
+    → ((i : ℕ) → Fits w64 (getD (room .masks) i 0)) → Frames held j room end room′
+framed {j} {held} {end} {room} {room′} closed fits =
+    let same : staying (blockerOf 18446744073709551615 j) (tableOf held room) ≡ frame j (tableOf held room) = stay-above j room fits held 0 in
     record {
       count = close-count closed ∙ ap length same;
-      tables = subst (λ (table : List Blocker). Placed held table masks levels masks′ levels′) same (close-placed closed);
+      tables = subst (λ (table : List Blocker). Placed held table room room′) same (close-placed closed);
       few = omega (arith, closed .few);
     }

@@ -1,6 +1,7 @@
--- Blockers that leave: the others close up, and the places that became free are cleared. Assumes nothing.
+-- Blockers that leave: the others close up, and the places that became free are cleared. What is shown of one table, whatever field it holds, is shown of
+-- the room. Assumes nothing.
 use Prim.Native.Nat.{ℕ, _+_, _-_, _≤_, _<_, max}
-use mathlib.Core.Path.{_≡_, refl, sym, ap, ap₂, _∙_}
+use mathlib.Core.Path.{_≡_, refl, sym, ap, subst, _∙_}
 use mathlib.Core.Bool.{Bool, true, false}
 use mathlib.Core.List.{List, [], _∷_, _++_, append-nil}
 use native.Mathlib.Omega.{arith}
@@ -9,11 +10,54 @@ use lib.Seq.{append-snoc, length-take-le, set-getD}
 use Rattle.lists.specs.Tests.{neg, choose}
 use Rattle.lists.specs.Lists.{keep}
 use Rattle.machine.specs.Machine.{Blocker, covers, leaves, staying}
-use Rattle.machine.specs.Lent.{blockersFrom, column, maskOf, levelOf}
-use Rattle.blockers.specs.Room.{Holds, blockerAt, Put, over, ClosedUp, Cleared}
-use Rattle.machine.proofs.LentTables.{column-length}
-use Rattle.blockers.proofs.Over.{column-append, over-behind, over-store-last, over-over, over-nothing}
+use Rattle.machine.specs.Lent.{BlockerRoom, blockerOf, blockerAt, blockersFrom, column, maskOf, levelOf, enteredOf, eachTable}
+use Rattle.machine.proofs.LentTables.{column-length, column-append}
+use Rattle.blockers.specs.Room.{HoldsRoom, Put, over, ClosedUp, Cleared}
+use Rattle.blockers.proofs.Over.{over-behind, over-store-last, over-over, over-nothing}
 use Rattle.blockers.proofs.Walks.{next-blocker, no-blocker}
+
+-- two changes that are the same of each table of so many places are the same of the room
+pub tables-within : {n : ℕ} {room : BlockerRoom} → HoldsRoom n room → (f g : (Blocker → ℕ) → List ℕ → List ℕ)
+    → ((field : Blocker → ℕ) (table : List ℕ) → n ≤ length table → f field table ≡ g field table) → eachTable f room ≡ eachTable g room
+tables-within {room = room} holds f g same =
+    rw (
+      same maskOf (room .masks) (holds .read .in-masks),
+      same levelOf (room .levels) (holds .read .in-levels),
+      same enteredOf (room .entered) (holds .in-entered),
+    )
+
+-- a change that leaves a place of each table as it was leaves the blocker there
+pub same-blocker : {n : ℕ} {room : BlockerRoom} → HoldsRoom n room → (f : (Blocker → ℕ) → List ℕ → List ℕ) (i : ℕ)
+    → ((field : Blocker → ℕ) (table : List ℕ) → n ≤ length table → getD (f field table) i 0 ≡ getD table i 0)
+    → blockerAt (eachTable f room) i ≡ blockerAt room i
+same-blocker {room = room} holds f i same =
+    rw (
+      same maskOf (room .masks) (holds .read .in-masks),
+      same levelOf (room .levels) (holds .read .in-levels),
+      same enteredOf (room .entered) (holds .in-entered),
+    )
+
+-- a room's tables are as long as another's
+pub record AsLong (room room′ : BlockerRoom) : Type 0 where
+  pub masks : length (room′ .masks) ≡ length (room .masks)
+  pub levels : length (room′ .levels) ≡ length (room .levels)
+  pub entered : length (room′ .entered) ≡ length (room .entered)
+
+pub long-holds : {n : ℕ} {room room′ : BlockerRoom} → AsLong room room′ → HoldsRoom n room → HoldsRoom n room′
+long-holds long holds = record {
+  read = record { in-masks = omega (arith, long .masks, holds .read .in-masks); in-levels = omega (arith, long .levels, holds .read .in-levels) };
+  in-entered = omega (arith, long .entered, holds .in-entered);
+}
+
+-- a store leaves the tables as long as they were
+pub put-long : {place : ℕ} {Y : Blocker} {first room room′ : BlockerRoom} → Put Y place room room′ → AsLong first room → AsLong first room′
+put-long {place = place} {Y = Y} {first = first} {room = room} put long =
+    subst (AsLong first) (sym (put .tables))
+    (record {
+      masks = length-set (room .masks) place (Y .mask) ∙ long .masks;
+      levels = length-set (room .levels) place (Y .level) ∙ long .levels;
+      entered = length-set (room .entered) place (Y .entered) ∙ long .entered;
+    })
 
 -- a blocker leaves for Y where Y covers it at its own level
 leaves-covered : (Y blocker : Blocker) → covers (blocker .level) (blocker .mask) Y ≡ leaves Y blocker
@@ -31,176 +75,154 @@ module _ (Y first : Blocker) (rest : List Blocker) where
   first-stays e = rw e
 
 -- One table while blockers close up from `start` on, of which those in `stayed` are done: they are written over it.
-pub record Closing (field : Blocker → ℕ) (start : ℕ) (stayed : List Blocker) (before after : List ℕ) : Type 0 where
-  pub new : after ≡ over (take start before ++ column field stayed) before
-  pub long : length after ≡ length before
-
-closing-starts : (field : Blocker → ℕ) (start : ℕ) (before : List ℕ) → Closing field start [] before before
-unfolding column
-closing-starts field start before = record { new = over-nothing start before; long = refl }
-
-module _ {field : Blocker → ℕ} {start : ℕ} {stayed : List Blocker} {before after : List ℕ} (closing : Closing field start stayed before after)
-    (fits : start ≤ length before) where
+module _ (field : Blocker → ℕ) (start : ℕ) (stayed : List Blocker) (before : List ℕ) (fits : start ≤ length before) where
   front-length : length (take start before ++ column field stayed) ≡ start + length stayed
   front-length =
       omega (arith, length-append (take start before) (column field stayed), length-take-le start before fits, column-length field stayed)
 
-  closing-ahead : (i : ℕ) → start + length stayed ≤ i → getD after i 0 ≡ getD before i 0
-  closing-ahead i l =
-      ap (λ (table : List ℕ). getD table i 0) (closing .new)
-      ∙ over-behind (take start before ++ column field stayed) before i (omega (arith, front-length))
+  closing-ahead : (i : ℕ) → start + length stayed ≤ i → getD (over (take start before ++ column field stayed) before) i 0 ≡ getD before i 0
+  closing-ahead i l = over-behind (take start before ++ column field stayed) before i (omega (arith, front-length))
 
-  closing-stores : {after′ : List ℕ} (blocker : Blocker) (kept : ℕ) → kept ≡ start + length stayed → kept < length before
-      → after′ ≡ set after kept (field blocker) → Closing field start (stayed ++ blocker ∷ []) before after′
+  closing-stores : (blocker : Blocker) (kept : ℕ) → kept ≡ start + length stayed → kept < length before
+      → set (over (take start before ++ column field stayed) before) kept (field blocker)
+      ≡ over (take start before ++ column field (stayed ++ blocker ∷ [])) before
   unfolding column
-  closing-stores blocker kept e l stored =
-      record {
-        new = stored
-            ∙ ap (λ (table : List ℕ). set table kept (field blocker)) (closing .new)
-            ∙ over-store-last (take start before) (column field stayed) before kept (field blocker) (e ∙ sym front-length) l
-            ∙ ap (λ (new : List ℕ). over (take start before ++ new) before) (sym (column-append field stayed (blocker ∷ [])));
-        long = ap length stored ∙ length-set after kept (field blocker) ∙ closing .long;
-      }
+  closing-stores blocker kept e l =
+      over-store-last (take start before) (column field stayed) before kept (field blocker) (e ∙ sym front-length) l
+      ∙ ap (λ (new : List ℕ). over (take start before ++ new) before) (sym (column-append field stayed (blocker ∷ [])))
 
   -- the places up to `to` are cleared behind them
-  closing-cleared : {last : List ℕ} (kept to : ℕ) → kept ≡ start + length stayed → last ≡ over (take kept after ++ replicate (to - kept) 0) after
-      → last ≡ over (take start before ++ column field stayed ++ replicate (to - kept) 0) before
-  closing-cleared kept to e new =
-      new
-      ∙ ap (λ (table : List ℕ). over (take kept table ++ replicate (to - kept) 0) table) (closing .new)
-      ∙ over-over (take start before ++ column field stayed) (replicate (to - kept) 0) before kept (e ∙ sym front-length)
+  closing-cleared : (kept to : ℕ) → kept ≡ start + length stayed
+      → over (take kept (over (take start before ++ column field stayed) before) ++ replicate (to - kept) 0)
+      (over (take start before ++ column field stayed) before)
+      ≡ over (take start before ++ column field stayed ++ replicate (to - kept) 0) before
+  closing-cleared kept to e =
+      over-over (take start before ++ column field stayed) (replicate (to - kept) 0) before kept (e ∙ sym front-length)
 
 -- The walk that closes blockers up, before the one at i: those in `stayed` are done, `kept` is the place for the next, and they with what stays of
 -- the blockers ahead are all that stay.
-pub record ClosingUp (Y : Blocker) (start from to : ℕ) (masks levels : List ℕ) (kept i : ℕ) (masks′ levels′ : List ℕ) : Type 0 where
+pub record ClosingUp (Y : Blocker) (start from to : ℕ) (room : BlockerRoom) (kept i : ℕ) (room′ : BlockerRoom) : Type 0 where
   pub begins : from ≤ i
   pub bound : i ≤ to
   pub behind : start ≤ from
   pub few : kept ≤ start + (i - from)
-  pub in-masks : to ≤ length masks
-  pub in-levels : to ≤ length levels
+  pub first : HoldsRoom to room
+  pub long : AsLong room room′
   pub stayed : List Blocker
   pub count : kept ≡ start + length stayed
-  pub ahead : stayed ++ staying Y (blockersFrom masks levels (to - i) i) ≡ staying Y (blockersFrom masks levels (to - from) from)
-  pub closing-masks : Closing maskOf start stayed masks masks′
-  pub closing-levels : Closing levelOf start stayed levels levels′
+  pub ahead : stayed ++ staying Y (blockersFrom room (to - i) i) ≡ staying Y (blockersFrom room (to - from) from)
+  pub closing : room′ ≡ eachTable (λ field before. over (take start before ++ column field stayed) before) room
 
-pub close-starts : {Y : Blocker} {start from to : ℕ} {masks levels : List ℕ} → start ≤ from → from ≤ to → Holds to masks levels
-    → ClosingUp Y start from to masks levels start from masks levels
-close-starts {Y} {start} {from} {to} {masks} {levels} a b held = record {
+pub close-starts : {Y : Blocker} {start from to : ℕ} {room : BlockerRoom} → start ≤ from → from ≤ to → HoldsRoom to room
+    → ClosingUp Y start from to room start from room
+unfolding column
+close-starts {Y} {start} {from} {to} {room} a b holds = record {
   begins = omega arith;
   bound = b;
   behind = a;
   few = omega arith;
-  in-masks = held .in-masks;
-  in-levels = held .in-levels;
+  first = holds;
+  long = record { masks = refl; levels = refl; entered = refl };
   stayed = [];
   count = omega arith;
   ahead = refl;
-  closing-masks = closing-starts maskOf start masks;
-  closing-levels = closing-starts levelOf start levels;
+  closing = tables-within holds (λ field before. before) (λ field before. over (take start before ++ []) before)
+      (λ field before l. over-nothing start before);
 }
 
-module _ {Y : Blocker} {start from to : ℕ} {masks levels : List ℕ} {kept i : ℕ} {masks′ levels′ : List ℕ}
-    (so-far : ClosingUp Y start from to masks levels kept i masks′ levels′) where
+module _ {Y : Blocker} {start from to : ℕ} {room : BlockerRoom} {kept i : ℕ} {room′ : BlockerRoom}
+    (so-far : ClosingUp Y start from to room kept i room′) where
   -- what the walk reads is what stood there before it
-  unchanged : blockerAt masks′ levels′ i ≡ blockerAt masks levels i
+  unchanged : blockerAt room′ i ≡ blockerAt room i
   unchanged =
-      ap₂ (λ (mask level : ℕ). record { mask = mask; level = level })
-      (closing-ahead (so-far .closing-masks) (omega arith) i (omega arith))
-      (closing-ahead (so-far .closing-levels) (omega arith) i (omega arith))
+      ap (λ (r : BlockerRoom). blockerAt r i) (so-far .closing)
+      ∙ same-blocker (so-far .first) (λ field before. over (take start before ++ column field (so-far .stayed)) before) i
+      (λ field before l. closing-ahead field start (so-far .stayed) before (omega (arith, so-far .begins, so-far .bound, so-far .behind)) i
+      (omega (arith, so-far .count, so-far .few, so-far .begins, so-far .behind)))
 
   -- one blocker further, with those that stayed by then
-  goes : {kept′ : ℕ} {masks″ levels″ : List ℕ} (stayed : List Blocker) → i < to → kept′ ≤ kept + 1 → kept′ ≡ start + length stayed
-      → stayed ++ staying Y (blockersFrom masks levels (to - (i + 1)) (i + 1)) ≡ so-far .stayed ++ staying Y (blockersFrom masks levels (to - i) i)
-      → Closing maskOf start stayed masks masks″ → Closing levelOf start stayed levels levels″
-      → ClosingUp Y start from to masks levels kept′ (i + 1) masks″ levels″
-  goes stayed l most count ahead of-masks of-levels =
+  goes : {kept′ : ℕ} {room″ : BlockerRoom} (stayed : List Blocker) → i < to → kept′ ≤ kept + 1 → kept′ ≡ start + length stayed
+      → stayed ++ staying Y (blockersFrom room (to - (i + 1)) (i + 1)) ≡ so-far .stayed ++ staying Y (blockersFrom room (to - i) i)
+      → AsLong room room″ → room″ ≡ eachTable (λ field before. over (take start before ++ column field stayed) before) room
+      → ClosingUp Y start from to room kept′ (i + 1) room″
+  goes stayed l most count ahead long closing =
       record {
-        begins = omega arith;
+        begins = omega (arith, so-far .begins);
         bound = omega arith;
         behind = so-far .behind;
-        few = omega arith;
-        in-masks = so-far .in-masks;
-        in-levels = so-far .in-levels;
+        few = omega (arith, so-far .few, so-far .begins);
+        first = so-far .first;
+        long = long;
         stayed = stayed;
         count = count;
         ahead = ahead ∙ so-far .ahead;
-        closing-masks = of-masks;
-        closing-levels = of-levels;
+        closing = closing;
       }
 
-  pub close-leaves : (b : Bool) → i < to → b ≡ covers (getD levels′ i 0) (getD masks′ i 0) Y → b ≡ true
-      → ClosingUp Y start from to masks levels kept (i + 1) masks′ levels′
+  pub close-leaves : (b : Bool) → i < to → b ≡ covers (getD (room′ .levels) i 0) (getD (room′ .masks) i 0) Y → b ≡ true
+      → ClosingUp Y start from to room kept (i + 1) room′
   close-leaves b l e t =
-      let rest : List Blocker = blockersFrom masks levels (to - (i + 1)) (i + 1) in
-      let left : leaves Y (blockerAt masks levels i) ≡ true = sym (e ∙ leaves-covered Y (blockerAt masks′ levels′ i) ∙ ap (leaves Y) unchanged) ∙ t in
-      let same : staying Y rest ≡ staying Y (blockersFrom masks levels (to - i) i) =
-      sym (ap (staying Y) (next-blocker masks levels to i l) ∙ first-leaves Y (blockerAt masks levels i) rest left) in
+      let rest : List Blocker = blockersFrom room (to - (i + 1)) (i + 1) in
+      let left : leaves Y (blockerAt room i) ≡ true = sym (e ∙ leaves-covered Y (blockerAt room′ i) ∙ ap (leaves Y) unchanged) ∙ t in
+      let same : staying Y rest ≡ staying Y (blockersFrom room (to - i) i) =
+      sym (ap (staying Y) (next-blocker room to i l) ∙ first-leaves Y (blockerAt room i) rest left) in
       goes (so-far .stayed) l (omega arith) (so-far .count) (ap (λ (others : List Blocker). so-far .stayed ++ others) same)
-      (so-far .closing-masks) (so-far .closing-levels)
+      (so-far .long) (so-far .closing)
 
   -- One that stays goes to the next place.
-  module _ (b : Bool) (l : i < to) (e : b ≡ covers (getD levels′ i 0) (getD masks′ i 0) Y) (t : b ≡ false) where
-    moves : {masks″ levels″ : List ℕ} → masks″ ≡ set masks′ kept (getD masks′ i 0) → levels″ ≡ set levels′ kept (getD levels′ i 0)
-        → ClosingUp Y start from to masks levels (kept + 1) (i + 1) masks″ levels″
-    moves em el =
-        let blocker : Blocker = blockerAt masks′ levels′ i in
-        let rest : List Blocker = blockersFrom masks levels (to - (i + 1)) (i + 1) in
-        let same : blocker ∷ staying Y rest ≡ staying Y (blockersFrom masks levels (to - i) i) =
-        sym (ap (staying Y) (next-blocker masks levels to i l ∙ ap (λ (first : Blocker). first ∷ rest) (sym unchanged))
+  module _ (b : Bool) (l : i < to) (e : b ≡ covers (getD (room′ .levels) i 0) (getD (room′ .masks) i 0) Y) (t : b ≡ false) where
+    pub close-stays : {room″ : BlockerRoom} → Put (blockerAt room′ i) kept room′ room″ → ClosingUp Y start from to room (kept + 1) (i + 1) room″
+    close-stays {room″} put =
+        let blocker : Blocker = blockerAt room′ i in
+        let rest : List Blocker = blockersFrom room (to - (i + 1)) (i + 1) in
+        let same : blocker ∷ staying Y rest ≡ staying Y (blockersFrom room (to - i) i) =
+        sym (ap (staying Y) (next-blocker room to i l ∙ ap (λ (first : Blocker). first ∷ rest) (sym unchanged))
         ∙ first-stays Y blocker rest (sym (e ∙ leaves-covered Y blocker) ∙ t)) in
         goes (so-far .stayed ++ blocker ∷ []) l (omega arith) (omega (arith, so-far .count, length-append (so-far .stayed) (blocker ∷ [])))
         (append-snoc (so-far .stayed) blocker (staying Y rest) ∙ ap (λ (others : List Blocker). so-far .stayed ++ others) same)
-        (closing-stores (so-far .closing-masks) (omega arith) blocker kept (so-far .count) (omega arith) em)
-        (closing-stores (so-far .closing-levels) (omega arith) blocker kept (so-far .count) (omega arith) el)
-
-    pub close-stays : {masks″ levels″ : List ℕ} → Put (blockerAt masks′ levels′ i) kept masks′ levels′ masks″ levels″
-        → ClosingUp Y start from to masks levels (kept + 1) (i + 1) masks″ levels″
-    close-stays put = moves (put .new-masks) (put .new-levels)
+        (put-long put (so-far .long))
+        (put .tables
+        ∙ ap (λ (r : BlockerRoom). eachTable (λ field before. set before kept (field blocker)) r) (so-far .closing)
+        ∙ tables-within (so-far .first)
+        (λ field before. set (over (take start before ++ column field (so-far .stayed)) before) kept (field blocker))
+        (λ field before. over (take start before ++ column field (so-far .stayed ++ blocker ∷ [])) before)
+        (λ field before h. closing-stores field start (so-far .stayed) before (omega (arith, so-far .begins, so-far .behind)) blocker kept (so-far .count)
+        (omega (arith, so-far .few, so-far .begins, so-far .behind))))
 
     -- where none has left yet, it stands there already
-    pub close-stands : kept ≡ i → ClosingUp Y start from to masks levels (kept + 1) (i + 1) masks′ levels′
-    close-stands same = moves (own masks′) (own levels′)
+    pub close-stands : kept ≡ i → ClosingUp Y start from to room (kept + 1) (i + 1) room′
+    close-stands same = close-stays (record { tables = own })
       where
-        own : (table : List ℕ) → table ≡ set table kept (getD table i 0)
-        own table = sym (ap (λ (k : ℕ). set table k (getD table i 0)) same ∙ set-getD table i 0)
+        own : room′ ≡ eachTable (λ field before. set before kept (field (blockerAt room′ i))) room′
+        own =
+            let stands : (table : List ℕ) → set table kept (getD table i 0) ≡ table =
+            λ table. ap (λ (k : ℕ). set table k (getD table i 0)) same ∙ set-getD table i 0 in
+            sym (rw (stands (room′ .masks), stands (room′ .levels), stands (room′ .entered)))
 
-  pub close-ends : {masks″ levels″ : List ℕ} → Cleared kept to masks′ levels′ masks″ levels″ → to ≤ i
-      → ClosedUp Y start from to kept masks levels masks″ levels″
+  pub close-ends : {room″ : BlockerRoom} → Cleared kept to room′ room″ → to ≤ i → ClosedUp Y start from to kept room room″
   unfolding staying keep
   close-ends cleared l =
-      let all : so-far .stayed ≡ staying Y (blockersFrom masks levels (to - from) from) =
+      let all : so-far .stayed ≡ staying Y (blockersFrom room (to - from) from) =
       sym (append-nil (so-far .stayed))
-      ∙ ap (λ (others : List Blocker). so-far .stayed ++ staying Y others) (sym (no-blocker masks levels to i l))
+      ∙ ap (λ (others : List Blocker). so-far .stayed ++ staying Y others) (sym (no-blocker room to i l))
       ∙ so-far .ahead in
       record {
         count = so-far .count ∙ ap (λ (table : List Blocker). start + length table) all;
-        few = omega arith;
-        new-masks = closing-cleared (so-far .closing-masks) (omega arith) kept to (so-far .count) (cleared .new-masks)
-            ∙ ap (λ (table : List Blocker). over (take start masks ++ column maskOf table ++ replicate (to - kept) 0) masks) all;
-        new-levels = closing-cleared (so-far .closing-levels) (omega arith) kept to (so-far .count) (cleared .new-levels)
-            ∙ ap (λ (table : List Blocker). over (take start levels ++ column levelOf table ++ replicate (to - kept) 0) levels) all;
+        few = omega (arith, so-far .few, so-far .bound);
+        tables = cleared .tables
+            ∙ ap (λ (r : BlockerRoom). eachTable (λ field before. over (take kept before ++ replicate (to - kept) 0) before) r) (so-far .closing)
+            ∙ tables-within (so-far .first) _ (λ field before. over (take start before ++ column field (so-far .stayed) ++ replicate (to - kept) 0) before)
+            (λ field before h. closing-cleared field start (so-far .stayed) before (omega (arith, so-far .begins, so-far .bound, so-far .behind)) kept to
+            (so-far .count))
+            ∙ ap (λ (table : List Blocker).
+            eachTable (λ field before. over (take start before ++ column field table ++ replicate (to - kept) 0) before) room) all;
       }
 
 -- One table while its places from `from` on are cleared, before the one at i.
-pub record Clearing (from to i : ℕ) (before after : List ℕ) : Type 0 where
-  pub begins : from ≤ i
-  pub bound : i ≤ max from to
-  pub fits : to ≤ length before
-  pub new : after ≡ over (take from before ++ replicate (i - from) 0) before
-  pub long : length after ≡ length before
-
-clearing-starts : (from to : ℕ) (before : List ℕ) → to ≤ length before → Clearing from to from before before
-clearing-starts from to before l =
+clearing-starts : (from : ℕ) (before : List ℕ) → before ≡ over (take from before ++ replicate (from - from) 0) before
+clearing-starts from before =
     let none : from - from ≡ 0 = omega arith in
-    record {
-      begins = omega arith;
-      bound = omega arith;
-      fits = l;
-      new = over-nothing from before ∙ ap (λ (k : ℕ). over (take from before ++ replicate k 0) before) (sym none);
-      long = refl;
-    }
+    over-nothing from before ∙ ap (λ (k : ℕ). over (take from before ++ replicate k 0) before) (sym none)
 
 zeros-more : (from i : ℕ) → from ≤ i → _++_ {A = ℕ} (replicate (i - from) 0) (0 ∷ []) ≡ replicate (i + 1 - from) 0
 zeros-more from i a =
@@ -220,41 +242,47 @@ one-more-zero from i before a l =
     over-store-last (take from before) (replicate (i - from) 0) before i 0 front l
     ∙ ap (λ (more : List ℕ). over (take from before ++ more) before) (zeros-more from i a)
 
-clearing-goes : {from to i : ℕ} {before after after′ : List ℕ} → Clearing from to i before after → i < to → after′ ≡ set after i 0
-    → Clearing from to (i + 1) before after′
-clearing-goes {from} {to} {i} {before} {after} so-far l stored =
-    record {
-      begins = omega arith;
-      bound = omega arith;
-      fits = so-far .fits;
-      new = stored ∙ ap (λ (table : List ℕ). set table i 0) (so-far .new) ∙ one-more-zero from i before (so-far .begins) (omega arith);
-      long = ap length stored ∙ length-set after i 0 ∙ so-far .long;
-    }
+-- the room while its places from `from` on are cleared, before the one at i
+pub record Clearing (from to i : ℕ) (room room′ : BlockerRoom) : Type 0 where
+  pub begins : from ≤ i
+  pub bound : i ≤ max from to
+  pub first : HoldsRoom to room
+  pub long : AsLong room room′
+  pub cleared : room′ ≡ eachTable (λ field before. over (take from before ++ replicate (i - from) 0) before) room
 
-clearing-ends : {from to i : ℕ} {before after : List ℕ} → Clearing from to i before after → to ≤ i
-    → after ≡ over (take from before ++ replicate (to - from) 0) before
-clearing-ends {from} {to} {i} {before} so-far l =
-    let all : i - from ≡ to - from = omega arith in
-    so-far .new ∙ ap (λ (k : ℕ). over (take from before ++ replicate k 0) before) all
-
--- both tables
-pub record ClearingBoth (from to i : ℕ) (masks levels masks′ levels′ : List ℕ) : Type 0 where
-  pub of-masks : Clearing from to i masks masks′
-  pub of-levels : Clearing from to i levels levels′
-
-pub clear-starts : {from to : ℕ} {masks levels : List ℕ} → Holds to masks levels → ClearingBoth from to from masks levels masks levels
-clear-starts {from} {to} {masks} {levels} held = record {
-  of-masks = clearing-starts from to masks (held .in-masks);
-  of-levels = clearing-starts from to levels (held .in-levels);
+pub clear-starts : {from to : ℕ} {room : BlockerRoom} → HoldsRoom to room → Clearing from to from room room
+clear-starts {from} {to} {room} holds = record {
+  begins = omega arith;
+  bound = omega arith;
+  first = holds;
+  long = record { masks = refl; levels = refl; entered = refl };
+  cleared = tables-within holds (λ field before. before) (λ field before. over (take from before ++ replicate (from - from) 0) before)
+      (λ field before l. clearing-starts from before);
 }
 
-module _ {from to i : ℕ} {masks levels masks′ levels′ : List ℕ} (so-far : ClearingBoth from to i masks levels masks′ levels′) where
-  pub clear-goes : {masks″ levels″ : List ℕ} → i < to → Put (record { mask = 0; level = 0 }) i masks′ levels′ masks″ levels″
-      → ClearingBoth from to (i + 1) masks levels masks″ levels″
-  clear-goes l put = record {
-    of-masks = clearing-goes (so-far .of-masks) l (put .new-masks);
-    of-levels = clearing-goes (so-far .of-levels) l (put .new-levels);
+module _ {from to i : ℕ} {room room′ : BlockerRoom} (so-far : Clearing from to i room room′) where
+  pub clear-goes : {room″ : BlockerRoom} → i < to → Put (blockerOf 0 0) i room′ room″ → Clearing from to (i + 1) room room″
+  clear-goes {room″} l put = record {
+    begins = omega (arith, so-far .begins);
+    bound = omega arith;
+    first = so-far .first;
+    long = put-long put (so-far .long);
+    cleared = put .tables
+        ∙ ap (λ (r : BlockerRoom). eachTable (λ field before. set before i (field (blockerOf 0 0))) r) (so-far .cleared)
+        ∙ zeros;
   }
+    where
+      zeros : eachTable (λ field before. set (over (take from before ++ replicate (i - from) 0) before) i (field (blockerOf 0 0))) room
+          ≡ eachTable (λ field before. over (take from before ++ replicate (i + 1 - from) 0) before) room
+      zeros =
+          tables-within (so-far .first) (λ field before. set (over (take from before ++ replicate (i - from) 0) before) i 0)
+          (λ field before. over (take from before ++ replicate (i + 1 - from) 0) before)
+          (λ field before h. one-more-zero from i before (so-far .begins) (omega arith))
 
-  pub clear-ends : to ≤ i → Cleared from to masks levels masks′ levels′
-  clear-ends l = record { new-masks = clearing-ends (so-far .of-masks) l; new-levels = clearing-ends (so-far .of-levels) l }
+  pub clear-ends : to ≤ i → Cleared from to room room′
+  clear-ends l =
+      let all : i - from ≡ to - from = omega (arith, so-far .bound) in
+      record {
+        tables = so-far .cleared
+            ∙ ap (λ (k : ℕ). eachTable (λ field before. over (take from before ++ replicate k 0) before) room) all;
+      }

@@ -1,4 +1,4 @@
--- A table whose first places were written over, and the columns that are written there. Assumes nothing.
+-- A table whose first places were written over. Assumes nothing.
 use Prim.Native.Nat.{ℕ, zero, suc, _+_, _-_, _≤_, _<_}
 use mathlib.Core.Path.{_≡_, refl, sym, ap, subst, _∙_}
 use mathlib.Core.List.{List, [], _∷_, _++_, append-assoc, append-nil}
@@ -6,15 +6,7 @@ use native.Mathlib.Numerals.{add-one}
 use native.Mathlib.Omega.{arith}
 use lib.ListN.{length, take, drop, getD, set, length-append}
 use lib.Seq.{drop-cons, take-append-seam, drop-append-add, drop-drop, getD-append-add, getD-drop, set-append-seam, append-snoc}
-use Rattle.machine.specs.Lent.{column}
 use Rattle.blockers.specs.Room.{over}
-
--- a list's column is made of those of its parts
-module _ {A : Type 0} (field : A → ℕ) where
-  pub column-append : (table more : List A) → column field (table ++ more) ≡ column field table ++ column field more
-  unfolding column
-  column-append [] more = refl
-  column-append (entry ∷ table) more = ap (λ (l : List ℕ). field entry ∷ l) (column-append table more)
 
 -- behind the front all is as before
 pub over-behind : (front before : List ℕ) (i : ℕ) → length front ≤ i → getD (over front before) i 0 ≡ getD before i 0

@@ -1,39 +1,47 @@
--- What both tables hold when new blockers stand in place of the old ones: what a caller reads there, and how blockers that close up come to stand so.
--- Assumes nothing.
+-- What the blocker room holds when new blockers stand in place of the old ones: what a caller reads there, and how blockers that close up come to stand
+-- so. Assumes nothing.
 use Prim.Native.Nat.{ℕ, zero, suc, _+_, _-_, _≤_, _<_, max}
 use mathlib.Core.Path.{_≡_, refl, sym, ap, ap₂, subst, _∙_}
 use mathlib.Core.Bool.{Bool, true, false}
-use mathlib.Core.List.{List, [], _∷_, _++_, append-assoc, append-nil}
+use mathlib.Core.List.{List, [], _∷_, _++_, append-nil}
 use native.Mathlib.Nat.{sub-zero}
 use native.Mathlib.Omega.{arith}
 use lib.ListN.{length, take, drop, getD, set, replicate, length-append, length-replicate}
-use lib.Seq.{append-snoc, drop-cons, getD-at, take-at, set-split, length-take-le}
+use lib.Seq.{append-snoc, drop-cons, take-at, set-split, length-take-le}
 use Rattle.lists.specs.Tests.{neg, choose}
 use Rattle.lists.specs.Lists.{keep}
 use Rattle.lists.proofs.Lists.{keep-length}
 use Rattle.machine.specs.Machine.{Blocker, leaves, staying}
-use Rattle.machine.specs.Lent.{blockersFrom, column, maskOf, levelOf, placed}
-use Rattle.blockers.specs.Room.{Holds, blockerAt, tableOf, Placed, Put, over, ClosedUp}
-use Rattle.machine.proofs.LentTables.{column-length, placed-length, drop-placed, read-back-table}
-use Rattle.blockers.proofs.Over.{column-append, over-behind, over-drop, over-nothing}
+use Rattle.machine.specs.Lent.{BlockerRoom, blockerAt, blockersFrom, column, maskOf, levelOf, enteredOf, placed, eachTable, withTable}
+use Rattle.machine.proofs.LentTables.{
+  column-length,
+  column-append,
+  placed-length,
+  behind,
+  placed-behind,
+  drop-placed,
+  tables-same,
+  read-part,
+  read-back-table,
+}
+use Rattle.blockers.specs.Room.{HoldsRoom, tableOf, Placed, Put, over, ClosedUp}
+use Rattle.blockers.proofs.Over.{over-behind, over-drop, over-nothing}
+use Rattle.blockers.proofs.Closing.{AsLong, tables-within, same-blocker}
 
 -- the blockers in use are as many as are held
-pub blockers-length : (masks levels : List ℕ) (count at : ℕ) → length (blockersFrom masks levels count at) ≡ count
+pub blockers-length : (room : BlockerRoom) (count at : ℕ) → length (blockersFrom room count at) ≡ count
 unfolding blockersFrom
-blockers-length masks levels zero at = refl
-blockers-length masks levels (suc count) at = ap suc (blockers-length masks levels count (suc at))
+blockers-length room zero at = refl
+blockers-length room (suc count) at = ap suc (blockers-length room count (suc at))
 
--- blockers behind a place, where both tables are as before
-blockers-behind : (masks levels masks′ levels′ : List ℕ) (count at : ℕ)
-    → ((i : ℕ) → at ≤ i → getD masks′ i 0 ≡ getD masks i 0) → ((i : ℕ) → at ≤ i → getD levels′ i 0 ≡ getD levels i 0)
-    → blockersFrom masks′ levels′ count at ≡ blockersFrom masks levels count at
+-- blockers behind a place, where the room is as before
+blockers-behind : (room room′ : BlockerRoom) (count at : ℕ) → ((i : ℕ) → at ≤ i → blockerAt room′ i ≡ blockerAt room i)
+    → blockersFrom room′ count at ≡ blockersFrom room count at
 unfolding blockersFrom
-blockers-behind masks levels masks′ levels′ zero at m l = refl
-blockers-behind masks levels masks′ levels′ (suc count) at m l =
-    let same : blockerAt masks′ levels′ at ≡ blockerAt masks levels at =
-    ap₂ (λ (mask level : ℕ). record { mask = mask; level = level }) (m at (omega arith)) (l at (omega arith)) in
-    ap₂ (λ (first : Blocker) (rest : List Blocker). first ∷ rest) same
-    (blockers-behind masks levels masks′ levels′ count (suc at) (λ i h. m i (omega arith)) (λ i h. l i (omega arith)))
+blockers-behind room room′ zero at same = refl
+blockers-behind room room′ (suc count) at same =
+    ap₂ (λ (first : Blocker) (rest : List Blocker). first ∷ rest) (same at (omega arith))
+    (blockers-behind room room′ count (suc at) (λ i h. same i (omega arith)))
 
 -- where as many stay as there were, all stay
 keep-whole : (test : Blocker → Bool) (table : List Blocker) → length table ≤ length (keep test table) → keep test table ≡ table
@@ -51,33 +59,6 @@ pub stay-whole : (Y : Blocker) (table : List Blocker) → length table ≤ lengt
 unfolding staying
 stay-whole Y table l = keep-whole (λ blocker. neg (leaves Y blocker)) table l
 
--- where the columns of some blockers stand in both tables from a place on, these blockers are read there
-columns-read : (masks levels : List ℕ) (part : List Blocker) (first-masks rest-masks first-levels rest-levels : List ℕ) (at : ℕ)
-    → length first-masks ≡ at → length first-levels ≡ at
-    → masks ≡ first-masks ++ column maskOf part ++ rest-masks → levels ≡ first-levels ++ column levelOf part ++ rest-levels
-    → blockersFrom masks levels (length part) at ≡ part
-unfolding blockersFrom column
-columns-read masks levels [] first-masks rest-masks first-levels rest-levels at m l em el = refl
-columns-read masks levels (blocker ∷ part) first-masks rest-masks first-levels rest-levels at m l em el =
-    ap₂ (λ (first : Blocker) (rest : List Blocker). first ∷ rest)
-    (ap₂ (λ (mask level : ℕ). record { mask = mask; level = level })
-    (entry masks first-masks (blocker .mask) (column maskOf part) rest-masks m em)
-    (entry levels first-levels (blocker .level) (column levelOf part) rest-levels l el))
-    (columns-read masks levels part (first-masks ++ blocker .mask ∷ []) rest-masks (first-levels ++ blocker .level ∷ []) rest-levels (suc at)
-    (longer first-masks (blocker .mask) m) (longer first-levels (blocker .level) l)
-    (shifted masks first-masks (blocker .mask) (column maskOf part) rest-masks em)
-    (shifted levels first-levels (blocker .level) (column levelOf part) rest-levels el))
-  where
-    entry : (table first : List ℕ) (x : ℕ) (new rest : List ℕ) → length first ≡ at → table ≡ first ++ x ∷ new ++ rest → getD table at 0 ≡ x
-    entry table first x new rest e t =
-        ap (λ (l : List ℕ). getD l at 0) (t ∙ append-assoc first (x ∷ new) rest) ∙ getD-at first x (new ++ rest) 0 at e
-
-    longer : (first : List ℕ) (x : ℕ) → length first ≡ at → length (first ++ x ∷ []) ≡ suc at
-    longer first x e = omega (arith, length-append first (x ∷ []))
-
-    shifted : (table first : List ℕ) (x : ℕ) (new rest : List ℕ) → table ≡ first ++ x ∷ new ++ rest → table ≡ (first ++ x ∷ []) ++ new ++ rest
-    shifted table first x new rest t = t ∙ ap (λ (l : List ℕ). l ++ rest) (sym (append-snoc first x new))
-
 -- new entries, and 0 in each place that became free, are written over the first places
 front-length : (old : ℕ) (new : List ℕ) → length (new ++ replicate (old - length new) 0) ≡ max old (length new)
 front-length old new = omega (arith, length-append new (replicate (old - length new) 0), length-replicate {A = ℕ} (old - length new) 0)
@@ -86,73 +67,62 @@ placed-over : (old : ℕ) (new before : List ℕ) → placed old new before ≡ 
 unfolding placed over
 placed-over old new before = ap (λ (k : ℕ). (new ++ replicate (old - length new) 0) ++ drop k before) (sym (front-length old new))
 
--- what follows the new entries: 0 in each place that became free, and what stood there before
-unfoldable behind : ℕ → List ℕ → List ℕ → List ℕ
-behind old new before = replicate (old - length new) 0 ++ drop (max old (length new)) before
+-- a room that holds so many places, and so many
+holds-both : {a b : ℕ} {room : BlockerRoom} → HoldsRoom a room → HoldsRoom b room → HoldsRoom (max a b) room
+holds-both h k = record {
+  read = record {
+    in-masks = omega (arith, h .read .in-masks, k .read .in-masks);
+    in-levels = omega (arith, h .read .in-levels, k .read .in-levels);
+  };
+  in-entered = omega (arith, h .in-entered, k .in-entered);
+}
 
-placed-behind : (old : ℕ) (new before : List ℕ) → placed old new before ≡ new ++ behind old new before
-unfolding placed behind
-placed-behind old new before = append-assoc new (replicate (old - length new) 0) (drop (max old (length new)) before)
+pub holds-fewer : {a b : ℕ} {room : BlockerRoom} → b ≤ a → HoldsRoom a room → HoldsRoom b room
+holds-fewer l h = record {
+  read = record { in-masks = omega (arith, h .read .in-masks); in-levels = omega (arith, h .read .in-levels) };
+  in-entered = omega (arith, h .in-entered);
+}
 
-placed-parts : (field : Blocker → ℕ) (held : ℕ) (first part rest : List Blocker) (before : List ℕ)
-    → placed held (column field (first ++ part ++ rest)) before
-    ≡ column field first ++ column field part ++ (column field rest ++ behind held (column field (first ++ part ++ rest)) before)
-placed-parts field held first part rest before =
-    let all : List ℕ = column field (first ++ part ++ rest) in
-    placed-behind held all before
-    ∙ ap (λ (new : List ℕ). new ++ behind held all before)
-    (column-append field (first ++ part) rest ∙ ap (λ (new : List ℕ). new ++ column field rest) (column-append field first part))
-    ∙ append-assoc (column field first ++ column field part) (column field rest) (behind held all before)
-
-module _ {held : ℕ} {masks levels masks′ levels′ : List ℕ} where
+module _ {held : ℕ} {room room′ : BlockerRoom} where
   -- The blockers in use are the new ones, and any part of them stands where it stands in the list.
-  placed-part : (first part rest : List Blocker) → Placed held (first ++ part ++ rest) masks levels masks′ levels′
-      → blockersFrom masks′ levels′ (length part) (length first) ≡ part
+  placed-part : (first part rest : List Blocker) → Placed held (first ++ part ++ rest) room room′
+      → blockersFrom room′ (length part) (length first) ≡ part
   placed-part first part rest new =
-      columns-read masks′ levels′ part
-      (column maskOf first) (column maskOf rest ++ behind held (column maskOf (first ++ part ++ rest)) masks)
-      (column levelOf first) (column levelOf rest ++ behind held (column levelOf (first ++ part ++ rest)) levels)
-      (length first) (column-length maskOf first) (column-length levelOf first)
-      (new .new-masks ∙ placed-parts maskOf held first part rest masks) (new .new-levels ∙ placed-parts levelOf held first part rest levels)
+      ap (λ (r : BlockerRoom). blockersFrom r (length part) (length first)) (new .tables) ∙ read-part held first part rest room
 
-  pub placed-table : (table : List Blocker) → Placed held table masks levels masks′ levels′ → tableOf (length table) masks′ levels′ ≡ table
-  placed-table table new = rw (new .new-masks, new .new-levels) (read-back-table table held held masks levels)
+  pub placed-table : (table : List Blocker) → Placed held table room room′ → tableOf (length table) room′ ≡ table
+  placed-table table new = ap (λ (r : BlockerRoom). tableOf (length table) r) (new .tables) ∙ read-back-table table held room
 
-  pub placed-first : (first rest : List Blocker) → Placed held (first ++ rest) masks levels masks′ levels′
-      → blockersFrom masks′ levels′ (length first) 0 ≡ first
+  pub placed-first : (first rest : List Blocker) → Placed held (first ++ rest) room room′ → blockersFrom room′ (length first) 0 ≡ first
   placed-first first rest new = placed-part [] first rest new
 
-  pub placed-rest : (first rest : List Blocker) → Placed held (first ++ rest) masks levels masks′ levels′
-      → blockersFrom masks′ levels′ (length rest) (length first) ≡ rest
+  pub placed-rest : (first rest : List Blocker) → Placed held (first ++ rest) room room′ → blockersFrom room′ (length rest) (length first) ≡ rest
   placed-rest first rest new =
-      placed-part first rest [] (subst (λ (all : List Blocker). Placed held all masks levels masks′ levels′) (sym (append-nil (first ++ rest))) new)
+      placed-part first rest [] (subst (λ (all : List Blocker). Placed held all room room′) (sym (append-nil (first ++ rest))) new)
 
-  module _ (table : List Blocker) (new : Placed held table masks levels masks′ levels′) where
-    -- Both tables are as long as before.
-    pub placed-masks-length : held ≤ length masks → length table ≤ length masks → length masks′ ≡ length masks
-    placed-masks-length h n =
-        ap length (new .new-masks) ∙ placed-length held (column maskOf table) masks h (omega (arith, column-length maskOf table))
+  -- The tables are as long as before.
+  pub placed-long : (table : List Blocker) → Placed held table room room′ → HoldsRoom held room → HoldsRoom (length table) room → AsLong room room′
+  unfolding withTable
+  placed-long table new holds fits =
+      subst (AsLong room) (sym (new .tables))
+      (record {
+        masks = long maskOf (room .masks) (holds .read .in-masks) (fits .read .in-masks);
+        levels = long levelOf (room .levels) (holds .read .in-levels) (fits .read .in-levels);
+        entered = long enteredOf (room .entered) (holds .in-entered) (fits .in-entered);
+      })
+    where
+      long : (field : Blocker → ℕ) (before : List ℕ) → held ≤ length before → length table ≤ length before
+          → length (placed held (column field table) before) ≡ length before
+      long field before h n = placed-length held (column field table) before h (omega (arith, column-length field table))
 
-    pub placed-levels-length : held ≤ length levels → length table ≤ length levels → length levels′ ≡ length levels
-    placed-levels-length h n =
-        ap length (new .new-levels) ∙ placed-length held (column levelOf table) levels h (omega (arith, column-length levelOf table))
-
--- one column of the blockers in use is the front of its table
-masks-column : (masks levels : List ℕ) (count at : ℕ) → at + count ≤ length masks
-    → column maskOf (blockersFrom masks levels count at) ≡ take count (drop at masks)
+-- a column of the blockers in use is the front of its table
+own-column : (room : BlockerRoom) (field : Blocker → ℕ) (table : List ℕ) → ((i : ℕ) → field (blockerAt room i) ≡ getD table i 0)
+    → (count at : ℕ) → at + count ≤ length table → column field (blockersFrom room count at) ≡ take count (drop at table)
 unfolding column blockersFrom
-masks-column masks levels zero at l = refl
-masks-column masks levels (suc count) at l =
-    ap (λ (rest : List ℕ). getD masks at 0 ∷ rest) (masks-column masks levels count (suc at) (omega arith))
-    ∙ ap (λ (rest : List ℕ). take (suc count) rest) (sym (drop-cons masks at 0 (omega arith)))
-
-levels-column : (masks levels : List ℕ) (count at : ℕ) → at + count ≤ length levels
-    → column levelOf (blockersFrom masks levels count at) ≡ take count (drop at levels)
-unfolding column blockersFrom
-levels-column masks levels zero at l = refl
-levels-column masks levels (suc count) at l =
-    ap (λ (rest : List ℕ). getD levels at 0 ∷ rest) (levels-column masks levels count (suc at) (omega arith))
-    ∙ ap (λ (rest : List ℕ). take (suc count) rest) (sym (drop-cons levels at 0 (omega arith)))
+own-column room field table own zero at l = refl
+own-column room field table own (suc count) at l =
+    ap₂ (λ (x : ℕ) (rest : List ℕ). x ∷ rest) (own at) (own-column room field table own count (suc at) (omega arith))
+    ∙ ap (λ (rest : List ℕ). take (suc count) rest) (sym (drop-cons table at 0 (omega arith)))
 
 placed-own : (held : ℕ) (new before : List ℕ) → held ≤ length before → new ≡ take held before → placed held new before ≡ before
 placed-own held new before l e =
@@ -162,41 +132,43 @@ placed-own held new before l e =
     ∙ ap (λ (k : ℕ). over (take held before ++ replicate k 0) before) none
     ∙ sym (over-nothing held before)
 
--- The blockers in use in their own place: both tables are as they were.
-module _ {held : ℕ} {masks levels masks′ levels′ : List ℕ} (holds : Holds held masks levels)
-    (new : Placed held (tableOf held masks levels) masks levels masks′ levels′) where
-  pub same-masks : masks′ ≡ masks
-  same-masks =
-      new .new-masks
-      ∙ placed-own held (column maskOf (tableOf held masks levels)) masks (holds .in-masks) (masks-column masks levels held 0 (omega arith))
-
-  pub same-levels : levels′ ≡ levels
-  same-levels =
-      new .new-levels
-      ∙ placed-own held (column levelOf (tableOf held masks levels)) levels (holds .in-levels) (levels-column masks levels held 0 (omega arith))
+-- The blockers in use in their own place: the room is as it was.
+pub own-room : {held : ℕ} {room : BlockerRoom} → HoldsRoom held room → withTable held (tableOf held room) room ≡ room
+unfolding withTable
+own-room {held} {room} holds =
+    rw (
+      own maskOf (room .masks) (λ i. refl) (holds .read .in-masks),
+      own levelOf (room .levels) (λ i. refl) (holds .read .in-levels),
+      own enteredOf (room .entered) (λ i. refl) (holds .in-entered),
+    )
+  where
+    own : (field : Blocker → ℕ) (table : List ℕ) → ((i : ℕ) → field (blockerAt room i) ≡ getD table i 0) → held ≤ length table
+        → placed held (column field (blockersFrom room held 0)) table ≡ table
+    own field table same l =
+        placed-own held (column field (blockersFrom room held 0)) table l (own-column room field table same held 0 (omega arith))
 
 -- the blockers that stay, closed up from the first place on
-module _ {Y : Blocker} {held end : ℕ} {masks levels masks′ levels′ : List ℕ} (closed : ClosedUp Y 0 0 held end masks levels masks′ levels′) where
-  whole : staying Y (blockersFrom masks levels (held - 0) 0) ≡ staying Y (tableOf held masks levels)
-  whole = ap (λ (count : ℕ). staying Y (blockersFrom masks levels count 0)) (sub-zero held)
+module _ {Y : Blocker} {held end : ℕ} {room room′ : BlockerRoom} (closed : ClosedUp Y 0 0 held end room room′) where
+  whole : staying Y (blockersFrom room (held - 0) 0) ≡ staying Y (tableOf held room)
+  whole = ap (λ (count : ℕ). staying Y (blockersFrom room count 0)) (sub-zero held)
 
-  pub close-count : end ≡ length (staying Y (tableOf held masks levels))
+  pub close-count : end ≡ length (staying Y (tableOf held room))
   close-count = omega (arith, closed .count, ap length whole)
 
-  pub close-placed : Placed held (staying Y (tableOf held masks levels)) masks levels masks′ levels′
-  close-placed =
-      record {
-        new-masks = closed .new-masks ∙ in-place maskOf masks;
-        new-levels = closed .new-levels ∙ in-place levelOf levels;
-      }
+  pub close-placed : Placed held (staying Y (tableOf held room)) room room′
+  unfolding withTable
+  close-placed = record {
+    tables = closed .tables
+        ∙ tables-same _ (λ field before. placed held (column field (staying Y (tableOf held room))) before) room in-place;
+  }
     where
       in-place : (field : Blocker → ℕ) (before : List ℕ)
-          → over (column field (staying Y (blockersFrom masks levels (held - 0) 0)) ++ replicate (held - end) 0) before
-          ≡ placed held (column field (staying Y (tableOf held masks levels))) before
+          → over (column field (staying Y (blockersFrom room (held - 0) 0)) ++ replicate (held - end) 0) before
+          ≡ placed held (column field (staying Y (tableOf held room))) before
       in-place field before =
           ap₂ (λ (table : List Blocker) (n : ℕ). over (column field table ++ replicate (held - n) 0) before) whole
-          (close-count ∙ sym (column-length field (staying Y (tableOf held masks levels))))
-          ∙ sym (placed-over held (column field (staying Y (tableOf held masks levels))) before)
+          (close-count ∙ sym (column-length field (staying Y (tableOf held room))))
+          ∙ sym (placed-over held (column field (staying Y (tableOf held room))) before)
 
 -- the new entries are a table's front
 placed-take : (old : ℕ) (new before : List ℕ) (at : ℕ) → at ≡ length new → take at (placed old new before) ≡ new
@@ -239,60 +211,58 @@ placed-more old to start end new more before s e o t =
     ∙ ap (λ (n : ℕ). over (new ++ more ++ replicate (to - n) 0) before) count
     ∙ sym (placed-over to (new ++ more) before)
 
-module _ {held : ℕ} {table : List Blocker} {masks levels masks′ levels′ : List ℕ} (new : Placed held table masks levels masks′ levels′) where
+module _ {held : ℕ} {table : List Blocker} {room room′ : BlockerRoom} (new : Placed held table room room′) where
   -- one more blocker, right behind them
-  pub placed-put : {Y : Blocker} {at : ℕ} {masks″ levels″ : List ℕ} → Put Y at masks′ levels′ masks″ levels″ → at ≡ length table
-      → Holds held masks levels → at < length masks → at < length levels → Placed held (table ++ Y ∷ []) masks levels masks″ levels″
-  unfolding column
-  placed-put {Y} {at} put e holds m l =
-      record {
-        new-masks = put .new-masks ∙ store maskOf masks masks′ (new .new-masks) (holds .in-masks) m;
-        new-levels = put .new-levels ∙ store levelOf levels levels′ (new .new-levels) (holds .in-levels) l;
-      }
+  pub placed-put : {Y : Blocker} {at : ℕ} {room″ : BlockerRoom} → Put Y at room′ room″ → at ≡ length table
+      → HoldsRoom held room → HoldsRoom (suc at) room → Placed held (table ++ Y ∷ []) room room″
+  unfolding column withTable
+  placed-put {Y} {at} put e holds fits = record {
+    tables = put .tables
+        ∙ ap (λ (r : BlockerRoom). eachTable (λ field before. set before at (field Y)) r) (new .tables)
+        ∙ tables-within (holds-both holds fits) _ (λ field before. placed held (column field (table ++ Y ∷ [])) before) store;
+  }
     where
-      store : (field : Blocker → ℕ) (before after : List ℕ) → after ≡ placed held (column field table) before → held ≤ length before → at < length before
-          → set after at (field Y) ≡ placed held (column field (table ++ Y ∷ [])) before
-      store field before after now h l =
-          ap (λ (t : List ℕ). set t at (field Y)) now
-          ∙ placed-store held (column field table) before at (field Y) (e ∙ sym (column-length field table)) h l
+      store : (field : Blocker → ℕ) (before : List ℕ) → max held (suc at) ≤ length before
+          → set (placed held (column field table) before) at (field Y) ≡ placed held (column field (table ++ Y ∷ [])) before
+      store field before l =
+          placed-store held (column field table) before at (field Y) (e ∙ sym (column-length field table)) (omega arith) (omega arith)
           ∙ ap (λ (all : List ℕ). placed held all before) (sym (column-append field table (Y ∷ [])))
 
   -- Blockers from further behind close up to them.
-  module _ {Y : Blocker} {start from to end : ℕ} {masks″ levels″ : List ℕ} (closed : ClosedUp Y start from to end masks′ levels′ masks″ levels″)
-      (e : start ≡ length table) (h : held ≤ from) (l : start ≤ from) where
-    as-before : blockersFrom masks′ levels′ (to - from) from ≡ blockersFrom masks levels (to - from) from
+  module _ {Y : Blocker} {start from to end : ℕ} {room″ : BlockerRoom} (closed : ClosedUp Y start from to end room′ room″)
+      (holds : HoldsRoom held room) (e : start ≡ length table) (h : held ≤ from) (l : start ≤ from) where
+    as-before : blockersFrom room′ (to - from) from ≡ blockersFrom room (to - from) from
+    unfolding withTable
     as-before =
-        blockers-behind masks levels masks′ levels′ (to - from) from
-        (same maskOf masks masks′ (new .new-masks)) (same levelOf levels levels′ (new .new-levels))
-      where
-        same : (field : Blocker → ℕ) (before after : List ℕ) → after ≡ placed held (column field table) before
-            → (i : ℕ) → from ≤ i → getD after i 0 ≡ getD before i 0
-        same field before after now i g =
-            ap (λ (t : List ℕ). getD t i 0) now
-            ∙ placed-further held (column field table) before i (omega arith) (omega (arith, column-length field table))
+        blockers-behind room room′ (to - from) from (λ i g.
+        ap (λ (r : BlockerRoom). blockerAt r i) (new .tables)
+        ∙ same-blocker holds (λ field before. placed held (column field table) before) i (λ field before k.
+        placed-further held (column field table) before i (omega arith) (omega (arith, column-length field table))))
 
-    pub close-behind-count : end ≡ length (table ++ staying Y (blockersFrom masks levels (to - from) from))
+    pub close-behind-count : end ≡ length (table ++ staying Y (blockersFrom room (to - from) from))
     close-behind-count =
         omega (
           arith,
           closed .count,
           ap (λ (others : List Blocker). length (staying Y others)) as-before,
-          length-append table (staying Y (blockersFrom masks levels (to - from) from)),
+          length-append table (staying Y (blockersFrom room (to - from) from)),
         )
 
-    pub close-behind : from ≤ to → Placed to (table ++ staying Y (blockersFrom masks levels (to - from) from)) masks levels masks″ levels″
-    close-behind order =
-        record {
-          new-masks = closed .new-masks ∙ more maskOf masks masks′ (new .new-masks);
-          new-levels = closed .new-levels ∙ more levelOf levels levels′ (new .new-levels);
-        }
+    pub close-behind : from ≤ to → Placed to (table ++ staying Y (blockersFrom room (to - from) from)) room room″
+    unfolding withTable
+    close-behind order = record {
+      tables = closed .tables
+          ∙ ap₂ (λ (r : BlockerRoom) (among : List Blocker).
+          eachTable (λ field before. over (take start before ++ column field (staying Y among) ++ replicate (to - end) 0) before) r) (new .tables) as-before
+          ∙ tables-same _ (λ field before. placed to (column field (table ++ staying Y (blockersFrom room (to - from) from))) before) room more;
+    }
       where
-        more : (field : Blocker → ℕ) (before after : List ℕ) → after ≡ placed held (column field table) before
-            → over (take start after ++ column field (staying Y (blockersFrom masks′ levels′ (to - from) from)) ++ replicate (to - end) 0) after
-            ≡ placed to (column field (table ++ staying Y (blockersFrom masks levels (to - from) from))) before
-        more field before after now =
-            let others : List Blocker = staying Y (blockersFrom masks levels (to - from) from) in
-            ap₂ (λ (t : List ℕ) (among : List Blocker). over (take start t ++ column field (staying Y among) ++ replicate (to - end) 0) t) now as-before
-            ∙ placed-more held to start end (column field table) (column field others) before (e ∙ sym (column-length field table))
+        more : (field : Blocker → ℕ) (before : List ℕ)
+            → over (take start (placed held (column field table) before) ++ column field (staying Y (blockersFrom room (to - from) from)) ++ replicate (to - end) 0)
+            (placed held (column field table) before)
+            ≡ placed to (column field (table ++ staying Y (blockersFrom room (to - from) from))) before
+        more field before =
+            let others : List Blocker = staying Y (blockersFrom room (to - from) from) in
+            placed-more held to start end (column field table) (column field others) before (e ∙ sym (column-length field table))
             (omega (arith, close-behind-count, column-length field others, length-append table others)) (omega arith) (omega (arith, closed .few))
             ∙ ap (λ (all : List ℕ). placed to all before) (sym (column-append field table others))

@@ -1,4 +1,5 @@
-// The blocker room: two lent tables, masks and levels, of which the first `held` places are in use.
+// The blocker room: three lent tables, masks, levels and the steps with which the blockers entered, of which the first `held` places are in use. What only
+// asks is lent masks and levels alone.
 ghost use mathlib.Core.Path.{_≡_};
 ghost use Prim.Native.Nat.{_+_, _-_, _≤_, _<_, min};
 ghost use lib.ListN.{length, getD};
@@ -6,8 +7,8 @@ ghost use lib.Dec.{leb, eqb};
 ghost use Rattle.lists.specs.Tests.{_and_, _or_, neg};
 ghost use Rattle.lists.specs.Lists.{any};
 ghost use Rattle.machine.specs.Machine.{covers as coversCase};
-ghost use Rattle.machine.specs.Lent.{blockersFrom, blockersIn};
-ghost use Rattle.blockers.specs.Room.{Holds, blockerAt, Put, ClosedUp, Cleared, Enters, RisesAt, Frames};
+ghost use Rattle.machine.specs.Lent.{roomOf, EvenRoom, unstampedRoom, blockerOf, blockerAt, blockersFrom, blockersIn};
+ghost use Rattle.blockers.specs.Room.{Holds, HoldsRoom, Put, ClosedUp, Cleared, Enters, RisesAt, Frames};
 
 // A level's number.
 pub struct Level(pub u32);
@@ -52,7 +53,7 @@ fn either(a: bool, b: bool) -> bool
 
 // Whether the blocker, a mask with its level, is of level `least` or more and the case is a subset of it.
 pub fn covers(mask: u64, level: Level, least: Level, case: u64) -> bool
-    ensures { λ r. ⌜ r ≡ coversCase (least .0) case (record { mask = mask; level = level .0 }) ⌝ }
+    ensures { λ r. ⌜ r ≡ coversCase (least .0) case (blockerOf mask (level .0)) ⌝ }
 {
     both(least.is_at_most(level), masks::subset(case, mask))
 }
@@ -60,7 +61,7 @@ pub fn covers(mask: u64, level: Level, least: Level, case: u64) -> bool
 // The same of the blocker at a place.
 fn covers_at(masks: &[u64], levels: &[u32], place: usize, least: Level, case: u64) -> bool
     requires { ⌜ (place < length (now masks)) × (place < length (now levels)) ⌝ }
-    ensures { λ r. ⌜ r ≡ coversCase (least .0) case (blockerAt (now (masks .entry)) (now (levels .entry)) place) ⌝ }
+    ensures { λ r. ⌜ r ≡ coversCase (least .0) case (blockerAt (unstampedRoom (now (masks .entry)) (now (levels .entry))) place) ⌝ }
 {
     covers(masks[place], Level(levels[place]), least, case)
 }
@@ -68,7 +69,7 @@ fn covers_at(masks: &[u64], levels: &[u32], place: usize, least: Level, case: u6
 // Whether one of the four blockers from `at` on covers the case.
 fn four_cover(masks: &[u64], levels: &[u32], at: usize, level: Level, case: u64) -> bool
     requires { ⌜ Holds (at + 4) (now masks) (now levels) ⌝ }
-    ensures { λ r. ⌜ r ≡ any (coversCase (level .0) case) (blockersFrom (now (masks .entry)) (now (levels .entry)) 4 at) ⌝ }
+    ensures { λ r. ⌜ r ≡ any (coversCase (level .0) case) (blockersFrom (unstampedRoom (now (masks .entry)) (now (levels .entry))) 4 at) ⌝ }
 {
     let first = covers_at(masks, levels, at, level, case);
     let second = covers_at(masks, levels, at + 1, level, case);
@@ -87,7 +88,7 @@ fn covered_from(
     case: u64,
 ) -> bool
     requires { ⌜ Holds held (now masks) (now levels) ⌝ }
-    ensures { λ r. ⌜ r ≡ any (coversCase (level .0) case) (blockersFrom (now (masks .entry)) (now (levels .entry)) (held - from) from) ⌝ }
+    ensures { λ r. ⌜ r ≡ any (coversCase (level .0) case) (blockersFrom (unstampedRoom (now (masks .entry)) (now (levels .entry))) (held - from) from) ⌝ }
 {
     let mut i = from;
     while i < held {
@@ -139,23 +140,32 @@ pub fn none_at(levels: &[u32], level: Level) -> bool
     true
 }
 
-// The mask stands at the place, with its level.
-fn put(masks: &mut [u64], levels: &mut [u32], place: usize, mask: u64, level: Level)
-    requires { ⌜ (place < length (now masks)) × (place < length (now levels)) ⌝ }
-    ensures { λ _. ⌜ Put (record { mask = mask; level = level .0 }) place (now (masks .entry)) (now (levels .entry)) (now (masks .exit)) (now (levels .exit)) ⌝ }
+// The mask stands at the place, with its level and the step with which it entered.
+fn put(
+    masks: &mut [u64],
+    levels: &mut [u32],
+    entered: &mut [u64],
+    place: usize,
+    mask: u64,
+    level: Level,
+    step: u64,
+)
+    requires { ⌜ HoldsRoom (place + 1) (roomOf (now masks) (now levels) (now entered)) ⌝ }
+    ensures { λ _. ⌜ Put (record { mask = mask; level = level .0; entered = step }) place (roomOf (now (masks .entry)) (now (levels .entry)) (now (entered .entry))) (roomOf (now (masks .exit)) (now (levels .exit)) (now (entered .exit))) ⌝ }
 {
     masks[place] = mask;
     levels[place] = level.0;
+    entered[place] = step;
 }
 
 // The places from `from` to `to` hold 0.
-pub fn clear(masks: &mut [u64], levels: &mut [u32], from: usize, to: usize)
-    requires { ⌜ Holds to (now masks) (now levels) ⌝ }
-    ensures { λ r. ⌜ Cleared from to (now (masks .entry)) (now (levels .entry)) (now (masks .exit)) (now (levels .exit)) ⌝ }
+pub fn clear(masks: &mut [u64], levels: &mut [u32], entered: &mut [u64], from: usize, to: usize)
+    requires { ⌜ HoldsRoom to (roomOf (now masks) (now levels) (now entered)) ⌝ }
+    ensures { λ r. ⌜ Cleared from to (roomOf (now (masks .entry)) (now (levels .entry)) (now (entered .entry))) (roomOf (now (masks .exit)) (now (levels .exit)) (now (entered .exit))) ⌝ }
 {
     let mut i = from;
     while i < to {
-        put(masks, levels, i, 0, Level(0));
+        put(masks, levels, entered, i, 0, Level(0), 0);
         i += 1;
     }
 }
@@ -166,14 +176,15 @@ pub fn clear(masks: &mut [u64], levels: &mut [u32], from: usize, to: usize)
 fn close_up(
     masks: &mut [u64],
     levels: &mut [u32],
+    entered: &mut [u64],
     start: usize,
     from: usize,
     to: usize,
     mask: u64,
     level: Level,
 ) -> usize
-    requires { ⌜ (start ≤ from) × (from ≤ to) × Holds to (now masks) (now levels) ⌝ }
-    ensures { λ r. ⌜ ClosedUp (record { mask = mask; level = level .0 }) start from to r (now (masks .entry)) (now (levels .entry)) (now (masks .exit)) (now (levels .exit)) ⌝ }
+    requires { ⌜ (start ≤ from) × (from ≤ to) × HoldsRoom to (roomOf (now masks) (now levels) (now entered)) ⌝ }
+    ensures { λ r. ⌜ ClosedUp (blockerOf mask (level .0)) start from to r (roomOf (now (masks .entry)) (now (levels .entry)) (now (entered .entry))) (roomOf (now (masks .exit)) (now (levels .exit)) (now (entered .exit))) ⌝ }
 {
     let mut kept = start;
     let mut i = from;
@@ -189,11 +200,12 @@ fn close_up(
             i += 1;
             continue;
         }
-        put(masks, levels, kept, old, old_level);
+        let step = entered[i];
+        put(masks, levels, entered, kept, old, old_level, step);
         kept += 1;
         i += 1;
     }
-    clear(masks, levels, kept, to);
+    clear(masks, levels, entered, kept, to);
     kept
 }
 
@@ -203,17 +215,25 @@ pub enum Entered {
     Full,
 }
 
-// The mask enters at the end with its level, once the blockers of this level or lower that are subsets of it have left. Room is judged after the
-// leaving, so a full table is one that none has left: it is as it was.
-pub fn enter(masks: &mut [u64], levels: &mut [u32], held: usize, mask: u64, level: Level) -> Entered
-    requires { ⌜ Holds held (now masks) (now levels) × (length (now masks) ≡ length (now levels)) ⌝ }
-    ensures { λ r. ⌜ Enters held (record { mask = mask; level = level .0 }) (now (masks .entry)) (now (levels .entry)) r (now (masks .exit)) (now (levels .exit)) ⌝ }
+// The mask enters at the end with its level and the step that made it, once the blockers of this level or lower that are subsets of it have left. Room is
+// judged after the leaving, so a full table is one that none has left: it is as it was.
+pub fn enter(
+    masks: &mut [u64],
+    levels: &mut [u32],
+    entered: &mut [u64],
+    held: usize,
+    mask: u64,
+    level: Level,
+    step: u64,
+) -> Entered
+    requires { ⌜ HoldsRoom held (roomOf (now masks) (now levels) (now entered)) × EvenRoom (roomOf (now masks) (now levels) (now entered)) ⌝ }
+    ensures { λ r. ⌜ Enters held (record { mask = mask; level = level .0; entered = step }) (roomOf (now (masks .entry)) (now (levels .entry)) (now (entered .entry))) r (roomOf (now (masks .exit)) (now (levels .exit)) (now (entered .exit))) ⌝ }
 {
-    let end = close_up(masks, levels, 0, 0, held, mask, level);
+    let end = close_up(masks, levels, entered, 0, 0, held, mask, level);
     if masks.len() <= end {
         return Entered::Full;
     }
-    put(masks, levels, end, mask, level);
+    put(masks, levels, entered, end, mask, level, step);
     Entered::Held(end + 1)
 }
 
@@ -223,16 +243,32 @@ pub struct Kept {
     pub place: usize,
 }
 
-// The blocker at `place` rises by one level, and others of its new level or lower that are subsets of it leave.
-pub fn rise(masks: &mut [u64], levels: &mut [u32], held: usize, place: usize) -> Kept
-    requires { ⌜ Holds held (now masks) (now levels) × (place < held) × (getD (now levels) place 0 < 4294967295) ⌝ }
-    ensures { λ r. ⌜ RisesAt held place (now (masks .entry)) (now (levels .entry)) (r .held) (r .place) (now (masks .exit)) (now (levels .exit)) ⌝ }
+// The blocker at `place` rises by one level, and others of its new level or lower that are subsets of it leave. Its step of entry stays.
+pub fn rise(
+    masks: &mut [u64],
+    levels: &mut [u32],
+    entered: &mut [u64],
+    held: usize,
+    place: usize,
+) -> Kept
+    requires { ⌜ HoldsRoom held (roomOf (now masks) (now levels) (now entered)) × (place < held) × (getD (now levels) place 0 < 4294967295) ⌝ }
+    ensures { λ r. ⌜ RisesAt held place (roomOf (now (masks .entry)) (now (levels .entry)) (now (entered .entry))) (r .held) (r .place) (roomOf (now (masks .exit)) (now (levels .exit)) (now (entered .exit))) ⌝ }
 {
     let mask = masks[place];
     let level = Level(levels[place]).above();
-    let stands = close_up(masks, levels, 0, 0, place, mask, level);
-    put(masks, levels, stands, mask, level);
-    let end = close_up(masks, levels, stands + 1, place + 1, held, mask, level);
+    let step = entered[place];
+    let stands = close_up(masks, levels, entered, 0, 0, place, mask, level);
+    put(masks, levels, entered, stands, mask, level, step);
+    let end = close_up(
+        masks,
+        levels,
+        entered,
+        stands + 1,
+        place + 1,
+        held,
+        mask,
+        level,
+    );
     Kept {
         held: end,
         place: stands,
@@ -240,9 +276,24 @@ pub fn rise(masks: &mut [u64], levels: &mut [u32], held: usize, place: usize) ->
 }
 
 // Only the blockers above the level stay: every mask is a subset of the full one.
-pub fn frame(masks: &mut [u64], levels: &mut [u32], held: usize, level: Level) -> usize
-    requires { ⌜ Holds held (now masks) (now levels) ⌝ }
-    ensures { λ r. ⌜ Frames held (level .0) (now (masks .entry)) (now (levels .entry)) r (now (masks .exit)) (now (levels .exit)) ⌝ }
+pub fn frame(
+    masks: &mut [u64],
+    levels: &mut [u32],
+    entered: &mut [u64],
+    held: usize,
+    level: Level,
+) -> usize
+    requires { ⌜ HoldsRoom held (roomOf (now masks) (now levels) (now entered)) ⌝ }
+    ensures { λ r. ⌜ Frames held (level .0) (roomOf (now (masks .entry)) (now (levels .entry)) (now (entered .entry))) r (roomOf (now (masks .exit)) (now (levels .exit)) (now (entered .exit))) ⌝ }
 {
-    close_up(masks, levels, 0, 0, held, 18446744073709551615, level)
+    close_up(
+        masks,
+        levels,
+        entered,
+        0,
+        0,
+        held,
+        18446744073709551615,
+        level,
+    )
 }

@@ -6,21 +6,24 @@ use native.Mathlib.Numerals.{add-one}
 use native.Mathlib.Omega.{arith}
 use lib.ListN.{length, take}
 use Rattle.lists.specs.Tests.{choose}
+use Rattle.automata.specs.Image.{initialOf}
 use Rattle.automata.specs.declared.image.Head.{Head}
 use Rattle.machine.specs.Machine.{Blocker, Pending, Configuration, hintAt, chosenFrom, chosen, byStates, finalPending, pendingAfter, blockStep, blockersLack, judge}
 use Rattle.machine.specs.Machine as Machine
-use Rattle.machine.specs.Lent.{blockersFrom, blockersIn, pendingFirst, columnBack, caseOf, symbolOf, placed}
+use Rattle.machine.specs.Lent.{BlockerRoom, roomOf, unstampedRoom, blockersFrom, blockersIn, pendingFirst, columnBack, caseOf, symbolOf, placed}
 use Rattle.machine.specs.Runs.{systemOf, givenOf, numberOf, casesIn, symbolsIn, tablesAfter}
 use Rattle.machine.specs.Records.{Stage, configurationOf, pendingOf, recordOf, after}
 use Rattle.machine.proofs.Passing.{chosen-is, chosen-hinted}
 use Rattle.machine.proofs.LentTables.{column-back-length, pending-length, read-back-pending, placed-placed, placed-cases, placed-symbols}
-use Rattle.blockers.specs.Room.{Holds, entering, Enters}
+use Rattle.blockers.specs.Room.{Holds, HoldsRoom, tableOf, entering, Enters}
 use Rattle.blockers.specs.declared.Level.{Level}
 use Rattle.blockers.specs.declared.Entered.{Entered}
 use Rattle.blockers.specs.declared.Entered.the-variants.{Held, Full}
-use Rattle.blockers.proofs.Parts.{part-table}
-use Rattle.blockers.proofs.Placing.{placed-table, placed-masks-length, placed-levels-length}
-use Rattle.blockers.proofs.Changes.{held-room, held-count, held-fits, held-placed, full-room, full-masks, full-levels}
+use Rattle.blockers.proofs.Parts.{part-unstamped, part-alike}
+use Rattle.machine.proofs.Unstamped.{unstamped-blocks, same-after, same-chosen}
+use Rattle.blockers.proofs.Closing.{long-holds}
+use Rattle.blockers.proofs.Placing.{placed-table, placed-long}
+use Rattle.blockers.proofs.Changes.{held-room, held-count, held-fits, held-placed, full-room, full-room-stays}
 use Rattle.choices.specs.Found.{ReadAs, choiceOf}
 use Rattle.choices.specs.declared.Choice.{Choice}
 use Rattle.pending.specs.Room.{Holds as HoldsWord, Placed as PlacedWord}
@@ -102,10 +105,10 @@ module _ (initial finals : ℕ) (masks levels : List ℕ) (level held hinted cou
       ∙ ap (λ (k : ℕ). placed k new before) most
 
   pub unpend-is : (r : Run) → r ≡ blockedOf run held count hinted
-      → Unpends run held hinted (pendingAfter initial (finals ∷ []) (blockersFrom masks levels held 0) level (pendingFirst cases symbols (run .pending - 1)))
+      → Unpends run held hinted (pendingAfter initial (finals ∷ []) (blockersFrom (unstampedRoom masks levels) held 0) level (pendingFirst cases symbols (run .pending - 1)))
       r cases symbols cases′ symbols′
   unpend-is r e =
-      let pends′ = rw (same-rest, part-table holds) at pends in
+      let pends′ = rw (same-rest, part-unstamped holds) at pends in
       record {
         record-is = e ∙ ap (λ (k : ℕ). blockedOf run held k hinted) (pends′ .counted);
         cases-are = both caseOf _ cases cases′ cases₁ (popped .new-cases) (pends′ .new-cases);
@@ -113,59 +116,75 @@ module _ (initial finals : ℕ) (masks levels : List ℕ) (level held hinted cou
       }
 
 -- the chosen set enters or finds no place
-module _ (initial finals : ℕ) {masks levels cases symbols : List ℕ} {run : Run} (ready : Ready (stage masks levels cases symbols run)) (below : ℕ) (choice : Choice)
-    {above : Level} (up : above .0 ≡ below + 1) {entered : Entered} {masks′ levels′ : List ℕ}
-    (enters : Enters (run .held) (record { mask = choice .mask; level = above .0 }) masks levels entered masks′ levels′) where
-  enters′ : Enters (run .held) (record { mask = choice .mask; level = suc below }) masks levels entered masks′ levels′
-  enters′ = rw (up, add-one below) at enters
+module _ (initial finals : ℕ) {room : BlockerRoom} {cases symbols : List ℕ} {run : Run} (ready : Ready (stage room cases symbols run)) (below : ℕ) (choice : Choice)
+    {above : Level} (up : above .0 ≡ below + 1) {answer : Entered} {room′ : BlockerRoom}
+    (enters : Enters (run .held) (record { mask = choice .mask; level = above .0; entered = run .steps + 1 }) room answer room′) where
+  Y : Blocker
+  Y = record { mask = choice .mask; level = suc below; entered = suc (run .steps) }
 
-  pub block-full : {cases′ symbols′ : List ℕ} {r : Run} → entered ≡ Full → Leaves run (leftOf run 3 0) [] [] r cases symbols cases′ symbols′
-      → stage masks′ levels′ cases′ symbols′ r
+  enters′ : Enters (run .held) Y room answer room′
+  unfolding Y
+  enters′ = rw (up, add-one below, add-one (run .steps)) at enters
+
+  pub block-full : {cases′ symbols′ : List ℕ} {r : Run} → answer ≡ Full → Leaves run (leftOf run 3 0) [] [] r cases symbols cases′ symbols′
+      → stage room′ cases′ symbols′ r
       ≡ madeBy (λ (c : Configuration). blockStep initial (finals ∷ []) c (pendingFirst cases symbols (run .pending - 1)) below (choiceOf choice))
-      (stage masks levels cases symbols run)
-  unfolding madeBy judge choose blockStep entering numberOf symbolsIn
+      (stage room cases symbols run)
+  unfolding madeBy judge choose blockStep entering numberOf symbolsIn Y
   block-full e leaves =
-      rw (full-masks enters′ e (ready-holds ready), full-levels enters′ e (ready-holds ready))
-      (stopped-is ready (blockersLack (configurationOf (stage masks levels cases symbols run))) refl refl leaves ∙ sym (rw (full-room enters′ e)))
+      rw (full-room-stays enters′ e (ready-holds ready))
+      (stopped-is ready (blockersLack (configurationOf (stage room cases symbols run))) refl refl leaves ∙ sym (rw (full-room enters′ e)))
 
-  module _ {held : ℕ} (e : entered ≡ Held held) where
+  module _ {held : ℕ} (e : answer ≡ Held held) where
     new : List Blocker
-    new = entering (record { mask = choice .mask; level = suc below }) (blockersFrom masks levels (run .held) 0)
+    new = entering Y (tableOf (run .held) room)
 
-    new-fits : length new ≤ length masks
+    new-fits : length new ≤ length (room .masks)
     unfolding new
     new-fits = omega (arith, held-fits enters′ e, held-count enters′ e)
 
-    pub block-holds : Holds held masks′ levels′
-    unfolding new
-    block-holds =
-        let long = placed-masks-length new (held-placed enters′ e) (ready .held-fits) new-fits in
-        let wide = placed-levels-length new (held-placed enters′ e) (omega (arith, ready .held-fits, ready .blocker-room)) (omega (arith, new-fits, ready .blocker-room)) in
-        record { in-masks = omega (arith, held-fits enters′ e); in-levels = omega (arith, held-fits enters′ e, ready .blocker-room) }
+    holds-new : (count : ℕ) → count ≤ length (room .masks) → HoldsRoom count room
+    holds-new count l = record {
+      read = record { in-masks = l; in-levels = omega (arith, ready .blocker-room .levels) };
+      in-entered = omega (arith, ready .blocker-room .entered);
+    }
 
-    table-is : blockersFrom masks′ levels′ held 0 ≡ new
+    block-fits : HoldsRoom held room′
     unfolding new
-    table-is = ap (λ (k : ℕ). blockersFrom masks′ levels′ k 0) (held-count enters′ e) ∙ placed-table new (held-placed enters′ e)
+    block-fits =
+        long-holds (placed-long new (held-placed enters′ e) (ready-holds ready) (holds-new (length new) new-fits)) (holds-new held (held-fits enters′ e))
+
+    table-is : tableOf held room′ ≡ new
+    unfolding new
+    table-is = ap (λ (k : ℕ). tableOf k room′) (held-count enters′ e) ∙ placed-table new (held-placed enters′ e)
 
     pub block-held : {cases′ symbols′ : List ℕ} {r : Run}
-        → Unpends run held (choice .hinted) (pendingAfter initial (finals ∷ []) (blockersFrom masks′ levels′ held 0) (run .level .0) (pendingFirst cases symbols (run .pending - 1)))
+        → Unpends run held (choice .hinted) (pendingAfter initial (finals ∷ []) (blockersFrom (unstampedRoom (room′ .masks) (room′ .levels)) held 0) (run .level .0) (pendingFirst cases symbols (run .pending - 1)))
         r cases symbols cases′ symbols′
-        → stage masks′ levels′ cases′ symbols′ r
+        → stage room′ cases′ symbols′ r
         ≡ madeBy (λ (c : Configuration). blockStep initial (finals ∷ []) c (pendingFirst cases symbols (run .pending - 1)) below (choiceOf choice))
-        (stage masks levels cases symbols run)
-    unfolding madeBy judge choose blockStep entering after tablesAfter casesIn symbolsIn recordOf numberOf pendingOf new
+        (stage room cases symbols run)
+    unfolding madeBy judge choose blockStep entering after tablesAfter casesIn symbolsIn recordOf numberOf pendingOf new Y
     block-held leaves =
-        let leaves′ = rw table-is at leaves in
-        rw (held-placed enters′ e .new-masks, held-placed enters′ e .new-levels, leaves′ .cases-are, leaves′ .symbols-are, leaves′ .record-is, held-count enters′ e, add-one (run .steps), add-one (run .blocks))
+        let leaves′ = rw (same-after (unstamped-blocks initial room′ held 0) (finals ∷ []) (run .level .0) (pendingFirst cases symbols (run .pending - 1)), table-is) at leaves in
+        rw (held-placed enters′ e .tables, leaves′ .cases-are, leaves′ .symbols-are, leaves′ .record-is, held-count enters′ e, add-one (run .steps), add-one (run .blocks))
         (sym (rw (held-room enters′ e)))
 
+-- so masks and levels may be read
+pub block-holds : (initial finals : ℕ) {masks levels entered cases symbols : List ℕ} {run : Run}
+    → Ready (stage (roomOf masks levels entered) cases symbols run) → (below : ℕ) (choice : Choice) {above : Level} → above .0 ≡ below + 1
+    → {answer : Entered} {masks′ levels′ entered′ : List ℕ}
+    → Enters (run .held) (record { mask = choice .mask; level = above .0; entered = run .steps + 1 }) (roomOf masks levels entered) answer (roomOf masks′ levels′ entered′)
+    → {held : ℕ} → answer ≡ Held held → Holds held masks′ levels′
+block-holds initial finals ready below choice up enters e = block-fits initial finals ready below choice up enters e .read
+
 -- the choice is the machine's
-module _ {image : List ℕ} {head : Head} {masks levels cases symbols : List ℕ} {run : Run} (read : ReadAs image head)
-    (ready : Ready (stage masks levels cases symbols run)) (hints : List ℕ) (below X : ℕ) (choice : Choice)
-    (chose : choiceOf choice ≡ chosenFrom (systemOf image) (byStates (systemOf image)) (blockersIn (take (run .held) masks) (take (run .held) levels)) below X (hintAt hints (run .blocks))) where
-  chosen-here : chosen (systemOf image) (givenOf image (hintsOf hints)) (configurationOf (stage masks levels cases symbols run)) below X ≡ choiceOf choice
+module _ {image : List ℕ} {head : Head} {room : BlockerRoom} {cases symbols : List ℕ} {run : Run} (read : ReadAs image head)
+    (ready : Ready (stage room cases symbols run)) (hints : List ℕ) (below X : ℕ) (choice : Choice)
+    (chose : choiceOf choice ≡ chosenFrom (systemOf image) (byStates (systemOf image)) (blockersIn (take (run .held) (room .masks)) (take (run .held) (room .levels))) below X (hintAt hints (run .blocks))) where
+  chosen-here : chosen (systemOf image) (givenOf image (hintsOf hints)) (configurationOf (stage room cases symbols run)) below X ≡ choiceOf choice
   unfolding chosen
-  chosen-here = sym (chose ∙ rw (part-table (ready-holds ready)))
+  chosen-here = sym (chose ∙ same-chosen (systemOf image) (part-alike (ready-holds ready) (initialOf image)) below X (hintAt hints (run .blocks)))
 
   pub block-countable : run .steps < 18446744073709551615 → Countable run (choice .hinted)
   block-countable few =
@@ -174,12 +193,12 @@ module _ {image : List ℕ} {head : Head} {masks levels cases symbols : List ℕ
         few-blocks = ready .blocks-fit;
         few-accepted = ready .hints-fit;
         one-hint = subst (λ (made : Machine.Choice). made .hinted ≤ 1) chosen-here
-            (chosen-hinted (chosen-is (systemOf image) (givenOf image (hintsOf hints)) (configurationOf (stage masks levels cases symbols run)) below X));
+            (chosen-hinted (chosen-is (systemOf image) (givenOf image (hintsOf hints)) (configurationOf (stage room cases symbols run)) below X));
       }
 
   pub block-is : {later : Stage}
       → later ≡ madeBy (λ (c : Configuration). blockStep (head .initial) (head .finals ∷ []) c (pendingFirst cases symbols (run .pending - 1)) below (choiceOf choice))
-      (stage masks levels cases symbols run)
-      → later ≡ madeBy (blockOf image hints (pendingFirst cases symbols (run .pending - 1)) below X) (stage masks levels cases symbols run)
+      (stage room cases symbols run)
+      → later ≡ madeBy (blockOf image hints (pendingFirst cases symbols (run .pending - 1)) below X) (stage room cases symbols run)
   unfolding madeBy blockOf
   block-is made = made ∙ rw (read .read, chosen-here)

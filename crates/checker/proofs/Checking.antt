@@ -14,8 +14,8 @@ use Rattle.automata.specs.declared.image.Head.{Head}
 use Rattle.automata.specs.declared.image.Image.{Image}
 use Rattle.automata.specs.declared.image.Image.the-variants as Answer
 use Rattle.automata.proofs.WordTests.{answer-valid, answer-head}
-use Rattle.machine.specs.Machine.{Next, comesTo}
-use Rattle.machine.specs.Lent.{column, maskOf, levelOf, placed}
+use Rattle.machine.specs.Machine.{Blocker, Next, comesTo}
+use Rattle.machine.specs.Lent.{BlockerRoom, EvenRoom, roomOf, column, maskOf, levelOf, enteredOf, placed, withTable}
 use Rattle.machine.specs.Runs.{Result, roomsOf, refused, casesIn, symbolsIn, tablesAfter, resultOf, oddRooms, oversize, checkRooms, checkRun, endOf, runWith, runOf}
 use Rattle.machine.proofs.LentTables.{placed-whole}
 use Rattle.machine.proofs.RunsKept.{check-fails}
@@ -24,34 +24,39 @@ use Rattle.checker.specs.Stage.{lentOf, termsOf}
 use Rattle.checker.specs.Whole.{Checked, Cleared, Runnable, resultWith, machineResult}
 
 -- the rooms' checks, each from the tests before it
-module _ (masks levels cases symbols hints : List ℕ) where
-  pub odd-blockers : (length masks ≡ length levels → ⊥) → 30 ≡ checkRooms (lentOf masks levels cases symbols) hints 0
+module _ (masks levels entered cases symbols hints : List ℕ) where
+  pub odd-levels : (length masks ≡ length levels → ⊥) → 30 ≡ checkRooms (lentOf (roomOf masks levels entered) cases symbols) hints 0
   unfolding checkRooms check oddRooms _or_ neg
-  odd-blockers n = rw (ne-eqb _ _ n)
+  odd-levels n = rw (ne-eqb _ _ n)
 
   module _ (even : length masks ≡ length levels) where
-    pub odd-word : (length cases ≡ length symbols → ⊥) → 30 ≡ checkRooms (lentOf masks levels cases symbols) hints 0
+    pub odd-entered : (length masks ≡ length entered → ⊥) → 30 ≡ checkRooms (lentOf (roomOf masks levels entered) cases symbols) hints 0
     unfolding checkRooms check oddRooms _or_ neg
-    odd-word n = rw (eq-eqb _ _ even, ne-eqb _ _ n)
+    odd-entered n = rw (eq-eqb _ _ even, ne-eqb _ _ n)
 
-    module _ (even-word : length cases ≡ length symbols) where
-      pub over-blockers : 65536 < length masks → 31 ≡ checkRooms (lentOf masks levels cases symbols) hints 0
-      unfolding checkRooms check oddRooms oversize _or_ neg
-      over-blockers l = rw (eq-eqb _ _ even, eq-eqb _ _ even-word, lt-ltb _ _ l)
+    module _ (even-entered : length masks ≡ length entered) where
+      pub odd-word : (length cases ≡ length symbols → ⊥) → 30 ≡ checkRooms (lentOf (roomOf masks levels entered) cases symbols) hints 0
+      unfolding checkRooms check oddRooms _or_ neg
+      odd-word n = rw (eq-eqb _ _ even, eq-eqb _ _ even-entered, ne-eqb _ _ n)
 
-      module _ (few : length masks ≤ 65536) where
-        pub over-word : 65536 < length cases → 31 ≡ checkRooms (lentOf masks levels cases symbols) hints 0
+      module _ (even-word : length cases ≡ length symbols) where
+        pub over-blockers : 65536 < length masks → 31 ≡ checkRooms (lentOf (roomOf masks levels entered) cases symbols) hints 0
         unfolding checkRooms check oddRooms oversize _or_ neg
-        over-word l = rw (eq-eqb _ _ even, eq-eqb _ _ even-word, le-ltb _ _ few, lt-ltb _ _ l)
+        over-blockers l = rw (eq-eqb _ _ even, eq-eqb _ _ even-entered, eq-eqb _ _ even-word, lt-ltb _ _ l)
 
-        module _ (few-word : length cases ≤ 65536) where
-          pub over-hints : 65536 < length hints → 31 ≡ checkRooms (lentOf masks levels cases symbols) hints 0
+        module _ (few : length masks ≤ 65536) where
+          pub over-word : 65536 < length cases → 31 ≡ checkRooms (lentOf (roomOf masks levels entered) cases symbols) hints 0
           unfolding checkRooms check oddRooms oversize _or_ neg
-          over-hints l = rw (eq-eqb _ _ even, eq-eqb _ _ even-word, le-ltb _ _ few, le-ltb _ _ few-word, lt-ltb _ _ l)
+          over-word l = rw (eq-eqb _ _ even, eq-eqb _ _ even-entered, eq-eqb _ _ even-word, le-ltb _ _ few, lt-ltb _ _ l)
 
-          pub rooms-pass : length hints ≤ 65536 → 0 ≡ checkRooms (lentOf masks levels cases symbols) hints 0
-          unfolding checkRooms check oddRooms oversize _or_ neg
-          rooms-pass l = rw (eq-eqb _ _ even, eq-eqb _ _ even-word, le-ltb _ _ few, le-ltb _ _ few-word, le-ltb _ _ l)
+          module _ (few-word : length cases ≤ 65536) where
+            pub over-hints : 65536 < length hints → 31 ≡ checkRooms (lentOf (roomOf masks levels entered) cases symbols) hints 0
+            unfolding checkRooms check oddRooms oversize _or_ neg
+            over-hints l = rw (eq-eqb _ _ even, eq-eqb _ _ even-entered, eq-eqb _ _ even-word, le-ltb _ _ few, le-ltb _ _ few-word, lt-ltb _ _ l)
+
+            pub rooms-pass : length hints ≤ 65536 → 0 ≡ checkRooms (lentOf (roomOf masks levels entered) cases symbols) hints 0
+            unfolding checkRooms check oddRooms oversize _or_ neg
+            rooms-pass l = rw (eq-eqb _ _ even, eq-eqb _ _ even-entered, eq-eqb _ _ even-word, le-ltb _ _ few, le-ltb _ _ few-word, le-ltb _ _ l)
 
 -- a table of which every place was cleared
 zeros-length : (before after : List ℕ) → after ≡ replicate (length before) 0 → length after ≡ length before
@@ -64,24 +69,47 @@ placed-zeros : (before after new : List ℕ) → after ≡ replicate (length bef
 placed-zeros before after new e =
     placed-whole new after ∙ ap (λ (k : ℕ). new ++ replicate (k - length new) 0) (zeros-length before after e) ∙ sym (placed-whole new before)
 
-module _ {image : List ℕ} {head : Head} {masks levels cases symbols masks′ levels′ cases′ symbols′ : List ℕ}
-    (runnable : Runnable image head masks levels cases symbols) (cleared : Cleared masks levels cases symbols masks′ levels′ cases′ symbols′) where
-  pub cleared-runnable : Runnable image head masks′ levels′ cases′ symbols′
+module _ {image : List ℕ} {head : Head} {room room′ : BlockerRoom} {cases symbols cases′ symbols′ : List ℕ}
+    (runnable : Runnable image head room cases symbols) (cleared : Cleared room cases symbols room′ cases′ symbols′) where
+  masks-are : room′ .masks ≡ replicate (length (room .masks)) 0
+  masks-are = ap (λ (r : BlockerRoom). r .masks) (cleared .new-room)
+
+  levels-are : room′ .levels ≡ replicate (length (room .levels)) 0
+  levels-are = ap (λ (r : BlockerRoom). r .levels) (cleared .new-room)
+
+  entered-are : room′ .entered ≡ replicate (length (room .entered)) 0
+  entered-are = ap (λ (r : BlockerRoom). r .entered) (cleared .new-room)
+
+  masks-length : length (room′ .masks) ≡ length (room .masks)
+  masks-length = zeros-length (room .masks) (room′ .masks) masks-are
+
+  -- the tables of the room are of one length still
+  even-cleared : EvenRoom room′
+  even-cleared = record {
+    levels = masks-length ∙ runnable .rooms .blocker-room .levels ∙ sym (zeros-length (room .levels) (room′ .levels) levels-are);
+    entered = masks-length ∙ runnable .rooms .blocker-room .entered ∙ sym (zeros-length (room .entered) (room′ .entered) entered-are);
+  }
+
+  pub cleared-runnable : Runnable image head room′ cases′ symbols′
   cleared-runnable =
       record {
         image-read = runnable .image-read;
         rooms = record {
-          blocker-room = zeros-length masks masks′ (cleared .new-masks) ∙ runnable .rooms .blocker-room ∙ sym (zeros-length levels levels′ (cleared .new-levels));
+          blocker-room = even-cleared;
           word-room = zeros-length cases cases′ (cleared .new-cases) ∙ runnable .rooms .word-room ∙ sym (zeros-length symbols symbols′ (cleared .new-symbols));
           few-places = omega (arith, zeros-length cases cases′ (cleared .new-cases), runnable .rooms .few-places);
         };
       }
 
-  pub cleared-itself : Cleared masks′ levels′ cases′ symbols′ masks′ levels′ cases′ symbols′
+  pub cleared-itself : Cleared room′ cases′ symbols′ room′ cases′ symbols′
   cleared-itself =
       record {
-        new-masks = zeros-again masks masks′ (cleared .new-masks);
-        new-levels = zeros-again levels levels′ (cleared .new-levels);
+        new-room =
+            sym (rw (
+              ← zeros-again (room .masks) (room′ .masks) masks-are,
+              ← zeros-again (room .levels) (room′ .levels) levels-are,
+              ← zeros-again (room .entered) (room′ .entered) entered-are,
+            ));
         new-cases = zeros-again cases cases′ (cleared .new-cases);
         new-symbols = zeros-again symbols symbols′ (cleared .new-symbols);
       }
@@ -92,48 +120,61 @@ module _ {image : List ℕ} {head : Head} {masks levels cases symbols masks′ l
   other-places size size′ before after new e e′ z =
       ap (λ (k : ℕ). placed k new after) e′ ∙ placed-zeros before after new z ∙ ap (λ (k : ℕ). placed k new before) (sym e)
 
-  result-cleared : (n : Next) → resultOf (lentOf masks′ levels′ cases′ symbols′) n ≡ resultOf (lentOf masks levels cases symbols) n
+  room-cleared : (table : List Blocker) → withTable (length (room′ .masks)) table room′ ≡ withTable (length (room .masks)) table room
+  unfolding withTable
+  room-cleared table =
+      let even = runnable .rooms .blocker-room in
+      rw (
+        placed-zeros (room .masks) (room′ .masks) (column maskOf table) masks-are,
+        other-places (length (room .masks)) (length (room′ .masks)) (room .levels) (room′ .levels) (column levelOf table) (even .levels) (even-cleared .levels) levels-are,
+        other-places (length (room .masks)) (length (room′ .masks)) (room .entered) (room′ .entered) (column enteredOf table) (even .entered) (even-cleared .entered)
+            entered-are,
+      )
+
+  result-cleared : (n : Next) → resultOf (lentOf room′ cases′ symbols′) n ≡ resultOf (lentOf room cases symbols) n
   unfolding resultOf tablesAfter
   result-cleared n =
       let rooms = runnable .rooms in
       let rooms′ = cleared-runnable .rooms in
       rw (
-        placed-zeros masks masks′ (column maskOf (comesTo n .table)) (cleared .new-masks),
-        other-places (length masks) (length masks′) levels levels′ (column levelOf (comesTo n .table)) (rooms .blocker-room) (rooms′ .blocker-room) (cleared .new-levels),
+        room-cleared (comesTo n .table),
         placed-zeros cases cases′ (casesIn n) (cleared .new-cases),
         other-places (length cases) (length cases′) symbols symbols′ (symbolsIn n) (rooms .word-room) (rooms′ .word-room) (cleared .new-symbols),
       )
 
-  pub go-is : (hints : List ℕ) (allowance : ℕ) {counts r : Counts} {end-masks end-levels end-cases end-symbols : List ℕ} → r ≡ counts
-      → resultWith counts end-masks end-levels end-cases end-symbols ≡ machineResult image (lentOf masks′ levels′ cases′ symbols′) (termsOf hints allowance)
-      → resultWith r end-masks end-levels end-cases end-symbols ≡ machineResult image (lentOf masks levels cases symbols) (termsOf hints allowance)
+  pub go-is : (hints : List ℕ) (allowance : ℕ) {counts r : Counts} {end-room : BlockerRoom} {end-cases end-symbols : List ℕ} → r ≡ counts
+      → resultWith counts end-room end-cases end-symbols ≡ machineResult image (lentOf room′ cases′ symbols′) (termsOf hints allowance)
+      → resultWith r end-room end-cases end-symbols ≡ machineResult image (lentOf room cases symbols) (termsOf hints allowance)
   unfolding machineResult
-  go-is hints allowance {end-masks = em} {end-levels = el} {end-cases = ec} {end-symbols = es} same e =
-      ap (λ (x : Counts). resultWith x em el ec es) same
+  go-is hints allowance {end-room = er} {end-cases = ec} {end-symbols = es} same e =
+      ap (λ (x : Counts). resultWith x er ec es) same
       ∙ e
-      ∙ result-cleared (endOf image (roomsOf (lentOf masks′ levels′ cases′ symbols′)) (termsOf hints allowance))
-      ∙ ap₂ (λ (b w : ℕ). resultOf (lentOf masks levels cases symbols) (endOf image (record { blockers = b; word = w }) (termsOf hints allowance)))
-      (zeros-length masks masks′ (cleared .new-masks)) (zeros-length cases cases′ (cleared .new-cases))
+      ∙ result-cleared (endOf image (roomsOf (lentOf room′ cases′ symbols′)) (termsOf hints allowance))
+      ∙ ap₂ (λ (b w : ℕ). resultOf (lentOf room cases symbols) (endOf image (record { blockers = b; word = w }) (termsOf hints allowance)))
+      masks-length (zeros-length cases cases′ (cleared .new-cases))
 
 -- what the rooms' checks leave where none applies
-rooms-checked : (masks levels cases symbols hints : List ℕ) → checkRooms (lentOf masks levels cases symbols) hints 0 ≡ 0 → Checked masks levels cases symbols
+rooms-checked : (room : BlockerRoom) (cases symbols hints : List ℕ) → checkRooms (lentOf room cases symbols) hints 0 ≡ 0 → Checked room cases symbols
 unfolding checkRooms oddRooms oversize
-rooms-checked masks levels cases symbols hints e =
+rooms-checked room cases symbols hints e =
     let odd = check-fails _ _ _ e in
     let over = check-fails _ _ _ (odd .1) in
     record {
-      blocker-room = eqb→eq _ _ (neg-neg _ (λ t. odd .0 (or-left _ _ t)));
-      word-room = eqb→eq _ _ (neg-neg _ (λ t. odd .0 (or-right _ _ t)));
+      blocker-room = record {
+        levels = eqb→eq _ _ (neg-neg _ (λ t. odd .0 (or-left _ _ t)));
+        entered = eqb→eq _ _ (neg-neg _ (λ t. odd .0 (or-right _ _ (or-left _ _ t))));
+      };
+      word-room = eqb→eq _ _ (neg-neg _ (λ t. odd .0 (or-right _ _ (or-right _ _ t))));
       few-places = ltb-false 65536 (length cases) (is-false _ (λ t. over .0 (or-right _ _ (or-left _ _ t))));
     }
 
 -- a valid image and rooms that pass their checks
-pub run-runnable : (image masks levels cases symbols hints : List ℕ) (answer : Image) → answer ≡ readImage image → (head : Head) → answer ≡ Answer.Valid head
-    → (number : ℕ) → number ≡ checkRooms (lentOf masks levels cases symbols) hints 0 → number ≡ 0 → Runnable image head masks levels cases symbols
-run-runnable image masks levels cases symbols hints answer read head e number rooms z =
+pub run-runnable : (image : List ℕ) (room : BlockerRoom) (cases symbols hints : List ℕ) (answer : Image) → answer ≡ readImage image → (head : Head) → answer ≡ Answer.Valid head
+    → (number : ℕ) → number ≡ checkRooms (lentOf room cases symbols) hints 0 → number ≡ 0 → Runnable image head room cases symbols
+run-runnable image room cases symbols hints answer read head e number rooms z =
     record {
       image-read = record { valid = answer-valid image answer read head e; read = answer-head image answer read head e };
-      rooms = rooms-checked masks levels cases symbols hints (sym rooms ∙ z);
+      rooms = rooms-checked room cases symbols hints (sym rooms ∙ z);
     }
 
 -- the counts of a refused run
@@ -141,36 +182,36 @@ abbrev refusal : ℕ → Counts
 refusal number = record { number = number; steps = 0; level = record { 0 = 0 }; blockers = 0; accepted = 0 }
 
 -- the whole run, by its checks
-module _ (image masks levels cases symbols hints : List ℕ) (allowance : ℕ) (answer : Image) (read : answer ≡ readImage image) where
-  refused-result : (number : ℕ) → (number ≡ 0 → ⊥) → checkRun image (lentOf masks levels cases symbols) (termsOf hints allowance) ≡ number
-      → resultWith (refusal number) masks levels cases symbols ≡ runOf image (lentOf masks levels cases symbols) (termsOf hints allowance)
+module _ (image : List ℕ) (room : BlockerRoom) (cases symbols hints : List ℕ) (allowance : ℕ) (answer : Image) (read : answer ≡ readImage image) where
+  refused-result : (number : ℕ) → (number ≡ 0 → ⊥) → checkRun image (lentOf room cases symbols) (termsOf hints allowance) ≡ number
+      → resultWith (refusal number) room cases symbols ≡ runOf image (lentOf room cases symbols) (termsOf hints allowance)
   unfolding runOf runWith refused
   refused-result zero n e = absurd (n refl)
   refused-result (suc number) n e = sym (rw e)
 
   pub run-refuses-image : (number : ℕ) (r : Counts) → answer ≡ Answer.Refused number → r ≡ refusal number
-      → resultWith r masks levels cases symbols ≡ runOf image (lentOf masks levels cases symbols) (termsOf hints allowance)
+      → resultWith r room cases symbols ≡ runOf image (lentOf room cases symbols) (termsOf hints allowance)
   unfolding checkRun readImage readWith checkRooms
   run-refuses-image number r e q = at (checkImage image) (sym read ∙ e) refl
     where
       at : (checked : ℕ) → readWith image checked ≡ Answer.Refused number → checkImage image ≡ checked
-          → resultWith r masks levels cases symbols ≡ runOf image (lentOf masks levels cases symbols) (termsOf hints allowance)
+          → resultWith r room cases symbols ≡ runOf image (lentOf room cases symbols) (termsOf hints allowance)
       at zero f c = let z : _≡_ {A = ℕ} 0 1 = cc in absurd (omega arith)
       at (suc checked) f c =
           let z : suc checked ≡ number = cc in
-          ap (λ (x : Counts). resultWith x masks levels cases symbols) q
+          ap (λ (x : Counts). resultWith x room cases symbols) q
           ∙ refused-result number (λ none. omega (arith, z)) (rw c z)
 
-  module _ (head : Head) (e : answer ≡ Answer.Valid head) (number : ℕ) (rooms : number ≡ checkRooms (lentOf masks levels cases symbols) hints 0) where
-    checked-is : checkRun image (lentOf masks levels cases symbols) (termsOf hints allowance) ≡ number
+  module _ (head : Head) (e : answer ≡ Answer.Valid head) (number : ℕ) (rooms : number ≡ checkRooms (lentOf room cases symbols) hints 0) where
+    checked-is : checkRun image (lentOf room cases symbols) (termsOf hints allowance) ≡ number
     unfolding checkRun
-    checked-is = ap (checkRooms (lentOf masks levels cases symbols) hints) (answer-valid image answer read head e) ∙ sym rooms
+    checked-is = ap (checkRooms (lentOf room cases symbols) hints) (answer-valid image answer read head e) ∙ sym rooms
 
     pub run-refuses-rooms : (r : Counts) → (number ≡ 0 → ⊥) → r ≡ refusal number
-        → resultWith r masks levels cases symbols ≡ runOf image (lentOf masks levels cases symbols) (termsOf hints allowance)
-    run-refuses-rooms r n q = ap (λ (x : Counts). resultWith x masks levels cases symbols) q ∙ refused-result number n checked-is
+        → resultWith r room cases symbols ≡ runOf image (lentOf room cases symbols) (termsOf hints allowance)
+    run-refuses-rooms r n q = ap (λ (x : Counts). resultWith x room cases symbols) q ∙ refused-result number n checked-is
 
-    pub run-goes : (result : Result) → number ≡ 0 → result ≡ machineResult image (lentOf masks levels cases symbols) (termsOf hints allowance)
-        → result ≡ runOf image (lentOf masks levels cases symbols) (termsOf hints allowance)
+    pub run-goes : (result : Result) → number ≡ 0 → result ≡ machineResult image (lentOf room cases symbols) (termsOf hints allowance)
+        → result ≡ runOf image (lentOf room cases symbols) (termsOf hints allowance)
     unfolding runOf runWith machineResult
     run-goes result z made = made ∙ sym (rw (checked-is ∙ z))

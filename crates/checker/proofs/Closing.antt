@@ -8,7 +8,7 @@ use native.Mathlib.Numerals.{add-one}
 use Rattle.lists.specs.Tests.{choose}
 use Rattle.machine.specs.System.{System}
 use Rattle.machine.specs.Machine.{oneMore, frame, closeWith, closeStep, empty, Next, goesOn, ends, comesTo, judge}
-use Rattle.machine.specs.Lent.{columnBack, placed}
+use Rattle.machine.specs.Lent.{BlockerRoom, columnBack, placed}
 use Rattle.machine.specs.Runs.{numberOf, casesIn, symbolsIn, tablesAfter}
 use Rattle.machine.specs.Records.{configurationOf, pendingOf, recordOf, after}
 use Rattle.blockers.specs.Room.{tableOf}
@@ -28,11 +28,11 @@ unfolding choose
 answer-works b e = rw e
 
 -- what the close of a level leaves, from what the close of the blockers left
-pub close-leaves : {S : System} {run counted : Run} {closed : Closed} {answer : ℕ} {masks levels masks′ levels′ : List ℕ}
-    → Closes S (run .level .0) (run .held) masks levels closed masks′ levels′ → answer ≡ choose (closed .empty) 0 6 → counted ≡ countedOf run answer 0
+pub close-leaves : {S : System} {run counted : Run} {closed : Closed} {answer : ℕ} {room room′ : BlockerRoom}
+    → Closes S (run .level .0) (run .held) room closed room′ → answer ≡ choose (closed .empty) 0 6 → counted ≡ countedOf run answer 0
     → ClosesLevel S run
     (record { answer = counted .answer; steps = counted .steps; level = counted .level; opened = false; held = closed .held; pending = counted .pending; blocks = counted .blocks; accepted = counted .accepted })
-    masks levels masks′ levels′
+    room room′
 close-leaves closes answers e = record { record-is = rw (e, answers, closes .answers, closes .count); tables = closes .tables }
 
 -- the word room stays where nothing was pending
@@ -40,26 +40,26 @@ unchanged : (pending : ℕ) → pending ≡ 0 → (before : List ℕ) → before
 unchanged pending nothing before = sym (placed-nothing before) ∙ ap (λ (k : ℕ). placed k [] before) (sym nothing)
 
 -- with nothing pending it is the machine's close
-module _ {S : System} {masks levels cases symbols : List ℕ} {run r : Run} (nothing : run .pending ≡ 0) {masks′ levels′ : List ℕ}
-    (closes : ClosesLevel S run r masks levels masks′ levels′) where
+module _ {S : System} {room : BlockerRoom} {cases symbols : List ℕ} {run r : Run} (nothing : run .pending ≡ 0) {room′ : BlockerRoom}
+    (closes : ClosesLevel S run r room room′) where
   -- the stage that shows a close with these blockers
-  shown : (n : Next) → choose (isEmpty (emptyLevel S (run .level .0) (tableOf (run .held) masks levels))) 0 6 ≡ numberOf n
+  shown : (n : Next) → choose (isEmpty (emptyLevel S (run .level .0) (tableOf (run .held) room))) 0 6 ≡ numberOf n
       → casesIn n ≡ [] → symbolsIn n ≡ [] → pendingOf n ≡ 0
-      → comesTo n ≡ oneMore (configurationOf (stage masks levels cases symbols run)) (closedBy S (run .level .0) (tableOf (run .held) masks levels)) (run .level .0) false []
-      → stage masks′ levels′ cases symbols r ≡ after (stage masks levels cases symbols run) n
+      → comesTo n ≡ oneMore (configurationOf (stage room cases symbols run)) (closedBy S (run .level .0) (tableOf (run .held) room)) (run .level .0) false []
+      → stage room′ cases symbols r ≡ after (stage room cases symbols run) n
   unfolding after tablesAfter recordOf
   shown n number no-cases no-symbols no-pending e =
-      rw (closes .tables .new-masks, closes .tables .new-levels, closes .record-is, add-one (run .steps), number, no-cases, no-symbols, no-pending, e, ← unchanged (run .pending) nothing cases, ← unchanged (run .pending) nothing symbols)
+      rw (closes .tables .tables, closes .record-is, add-one (run .steps), number, no-cases, no-symbols, no-pending, e, ← unchanged (run .pending) nothing cases, ← unchanged (run .pending) nothing symbols)
 
-  at : (o : Option ℕ) → emptyLevel S (run .level .0) (tableOf (run .held) masks levels) ≡ o
-      → stage masks′ levels′ cases symbols r ≡ madeBy (closeStep S) (stage masks levels cases symbols run)
+  at : (o : Option ℕ) → emptyLevel S (run .level .0) (tableOf (run .held) room) ≡ o
+      → stage room′ cases symbols r ≡ madeBy (closeStep S) (stage room cases symbols run)
   unfolding madeBy closeStep closeWith judge lowestNone keptBy isEmpty choose numberOf casesIn symbolsIn pendingOf columnBack
   at none e =
-      shown (goesOn (oneMore (configurationOf (stage masks levels cases symbols run)) (risenBy S (run .level .0) (tableOf (run .held) masks levels)) (run .level .0) false []))
+      shown (goesOn (oneMore (configurationOf (stage room cases symbols run)) (risenBy S (run .level .0) (tableOf (run .held) room)) (run .level .0) false []))
       (rw e) refl refl refl (rw e) ∙ sym (rw e)
   at (some j) e =
-      shown (ends (empty (oneMore (configurationOf (stage masks levels cases symbols run)) (frame j (risenBy S (run .level .0) (tableOf (run .held) masks levels))) (run .level .0) false [])))
+      shown (ends (empty (oneMore (configurationOf (stage room cases symbols run)) (frame j (risenBy S (run .level .0) (tableOf (run .held) room))) (run .level .0) false [])))
       (rw e) refl refl refl (rw e) ∙ sym (rw e)
 
-  pub close-is : stage masks′ levels′ cases symbols r ≡ madeBy (closeStep S) (stage masks levels cases symbols run)
-  close-is = at (emptyLevel S (run .level .0) (tableOf (run .held) masks levels)) refl
+  pub close-is : stage room′ cases symbols r ≡ madeBy (closeStep S) (stage room cases symbols run)
+  close-is = at (emptyLevel S (run .level .0) (tableOf (run .held) room)) refl

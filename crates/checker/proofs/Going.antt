@@ -13,7 +13,7 @@ use Rattle.masks.specs.Sets.{subset}
 use Rattle.automata.specs.Image.{Valid, initialOf, finalOf}
 use Rattle.automata.specs.declared.image.Head.{Head}
 use Rattle.machine.specs.Machine.{Configuration, Next, goesOn, ends, advance, chain, begin, beginning, nonempty}
-use Rattle.machine.specs.Lent.{column, columnBack}
+use Rattle.machine.specs.Lent.{BlockerRoom, column, columnBack, placed, eachTable, withTable}
 use Rattle.machine.specs.Runs.{Lent, Terms, Result, systemOf, roomsOf, givenOf, numberOf, casesIn, symbolsIn, tablesAfter, resultOf, endOf}
 use Rattle.machine.specs.Records.{Stage, pendingOf, recordOf, stepOf}
 use Rattle.machine.proofs.Passing.{byStates-sound}
@@ -25,7 +25,8 @@ use Rattle.machine.proofs.LentTables.{placed-none}
 use Rattle.machine.proofs.Images.{image-lawful}
 use Rattle.machine.proofs.Judging.{Even, number-low}
 use Rattle.machine.proofs.Language.{Sound}
-use Rattle.machine.proofs.RecordSteps.{shown, Fitting, working-fits, shown-masks, shown-levels, shown-cases, shown-symbols, step-shown}
+use Rattle.machine.proofs.RecordSteps.{shown, Fitting, working-fits, shown-masks, shown-levels, shown-entered, shown-cases, shown-symbols, step-shown}
+use Rattle.blockers.proofs.Closing.{AsLong}
 use Rattle.choices.specs.Found.{ReadAs}
 use Rattle.checker.specs.declared.record.Run.{Run}
 use Rattle.checker.specs.Stage.{lentOf, termsOf, stage, Ready}
@@ -93,7 +94,10 @@ module _ (image : List ℕ) (lent : Lent) (terms : Terms) where
     pub going-ready : length (lent .cases) ≤ 65536 → Ready at
     unfolding recordOf pendingOf
     going-ready few = subst Ready (sym (w .shows)) (record {
-      blocker-room = shown-masks lent even (w .to) fits ∙ even .levels ∙ sym (shown-levels lent even (w .to) fits);
+      blocker-room = record {
+        levels = shown-masks lent even (w .to) fits ∙ even .blockers .levels ∙ sym (shown-levels lent even (w .to) fits);
+        entered = shown-masks lent even (w .to) fits ∙ even .blockers .entered ∙ sym (shown-entered lent even (w .to) fits);
+      };
       word-room = shown-cases lent even (w .to) fits ∙ even .symbols ∙ sym (shown-symbols lent even (w .to) fits);
       held-fits = omega (arith, shown-masks lent even (w .to) fits, fits .table);
       level-fits = omega (arith, shown-cases lent even (w .to) fits, working .counted .word-fits);
@@ -151,69 +155,77 @@ module _ (image : List ℕ) (lent : Lent) (terms : Terms) where
           ∙ ap (resultOf lent) (sym (calls-suffice (systemOf image) (roomsOf lent) (givenOf image terms) (going .calls) (going .few) e))
 
   -- the beginning: all places 0, and the start's record, by whether I is a subset of F
-  module _ (even : Even lent) {masks′ levels′ cases′ symbols′ : List ℕ}
-      (cleared : Cleared (lent .masks) (lent .levels) (lent .cases) (lent .symbols) masks′ levels′ cases′ symbols′) where
-    emptied : lentOf masks′ levels′ cases′ symbols′ ≡ tablesAfter (length (lent .masks)) (length (lent .cases)) lent (goesOn beginning)
-    unfolding tablesAfter casesIn symbolsIn column columnBack beginning
+  module _ (even : Even lent) {room′ : BlockerRoom} {cases′ symbols′ : List ℕ}
+      (cleared : Cleared (lent .room) (lent .cases) (lent .symbols) room′ cases′ symbols′) where
+    no-blockers : withTable (length (lent .room .masks)) [] (lent .room) ≡ eachTable (λ field before. replicate (length before) 0) (lent .room)
+    unfolding withTable column
+    no-blockers =
+        rw (
+          none (lent .room .masks) refl,
+          none (lent .room .levels) (even .blockers .levels),
+          none (lent .room .entered) (even .blockers .entered),
+        )
+      where
+        none : (before : List ℕ) → length (lent .room .masks) ≡ length before → placed (length (lent .room .masks)) [] before ≡ replicate (length before) 0
+        none before e = ap (λ (k : ℕ). placed k [] before) e ∙ placed-none before
+
+    emptied : lentOf room′ cases′ symbols′ ≡ tablesAfter (length (lent .room .masks)) (length (lent .cases)) lent (goesOn beginning)
+    unfolding tablesAfter casesIn symbolsIn columnBack beginning
     emptied =
         rw (
-          cleared .new-masks ∙ sym (placed-none (lent .masks)),
-          cleared .new-levels ∙ sym (placed-none (lent .levels)),
+          cleared .new-room ∙ sym no-blockers,
           cleared .new-cases ∙ sym (placed-none (lent .cases)),
           cleared .new-symbols ∙ sym (placed-none (lent .symbols)),
-          ← even .levels,
           ← even .symbols,
         )
 
     start-shown : (b : Bool)
-        → stage masks′ levels′ cases′ symbols′
+        → stage room′ cases′ symbols′
         (record { answer = choose b 1 6; steps = 0; level = record { 0 = 0 }; opened = false; held = 0; pending = 0; blocks = 0; accepted = 0 })
         ≡ shown lent (choose b (ends (nonempty [] beginning)) (goesOn beginning))
-    unfolding recordOf numberOf pendingOf tablesAfter casesIn symbolsIn column columnBack beginning choose
+    unfolding recordOf numberOf pendingOf tablesAfter casesIn symbolsIn columnBack beginning choose
     start-shown true = ap (λ (tables : Lent). record { tables = tables; run = recordOf (ends (nonempty [] beginning)) }) emptied
     start-shown false = ap (λ (tables : Lent). record { tables = tables; run = recordOf (goesOn beginning) }) emptied
 
     pub going-starts : (head : Head) → ReadAs image head → {run : Run} → run ≡ startRecord (head .initial) (head .finals)
-        → Going (stage masks′ levels′ cases′ symbols′ run)
+        → Going (stage room′ cases′ symbols′ run)
     unfolding startRecord begin any _or_ chain
     going-starts head read {run} begins =
         record { calls = 0; few = omega arith; shows = rw (begins, read .read) (at (subset (initialOf image) (finalOf image))) }
       where
         at : (b : Bool)
-            → stage masks′ levels′ cases′ symbols′
+            → stage room′ cases′ symbols′
             (record { answer = choose b 1 6; steps = 0; level = record { 0 = 0 }; opened = false; held = 0; pending = 0; blocks = 0; accepted = 0 })
             ≡ shown lent (choose (b or false) (ends (nonempty [] beginning)) (goesOn beginning))
         at true = start-shown true
         at false = start-shown false
 
 -- the loop: the stage goes on from what was lent, and each table keeps its length
-pub record Driven (image : List ℕ) (head : Head) (lent : Lent) (terms : Terms) (masks levels cases symbols : List ℕ) (run : Run) : Type 0 where
-  pub runnable : Runnable image head (lent .masks) (lent .levels) (lent .cases) (lent .symbols)
-  pub going : Going image lent terms (stage masks levels cases symbols run)
-  pub long-masks : length masks ≡ length (lent .masks)
-  pub long-levels : length levels ≡ length (lent .levels)
+pub record Driven (image : List ℕ) (head : Head) (lent : Lent) (terms : Terms) (room : BlockerRoom) (cases symbols : List ℕ) (run : Run) : Type 0 where
+  pub runnable : Runnable image head (lent .room) (lent .cases) (lent .symbols)
+  pub going : Going image lent terms (stage room cases symbols run)
+  pub long : AsLong (lent .room) room
   pub long-cases : length cases ≡ length (lent .cases)
   pub long-symbols : length symbols ≡ length (lent .symbols)
 
-runnable-even : {image : List ℕ} {head : Head} (lent : Lent) → Runnable image head (lent .masks) (lent .levels) (lent .cases) (lent .symbols) → Even lent
-runnable-even lent runnable = record { levels = runnable .rooms .blocker-room; symbols = runnable .rooms .word-room }
+runnable-even : {image : List ℕ} {head : Head} (lent : Lent) → Runnable image head (lent .room) (lent .cases) (lent .symbols) → Even lent
+runnable-even lent runnable = record { blockers = runnable .rooms .blocker-room; symbols = runnable .rooms .word-room }
 
-pub drive-starts : {image : List ℕ} {head : Head} {masks levels cases symbols : List ℕ} (hints : List ℕ) (allowance : ℕ) {run : Run}
-    → Runnable image head masks levels cases symbols → Cleared masks levels cases symbols masks levels cases symbols → run ≡ startRecord (head .initial) (head .finals)
-    → Driven image head (lentOf masks levels cases symbols) (termsOf hints allowance) masks levels cases symbols run
-drive-starts {image} {head} {masks} {levels} {cases} {symbols} hints allowance runnable cleared begins =
+pub drive-starts : {image : List ℕ} {head : Head} {room : BlockerRoom} {cases symbols : List ℕ} (hints : List ℕ) (allowance : ℕ) {run : Run}
+    → Runnable image head room cases symbols → Cleared room cases symbols room cases symbols → run ≡ startRecord (head .initial) (head .finals)
+    → Driven image head (lentOf room cases symbols) (termsOf hints allowance) room cases symbols run
+drive-starts {image} {head} {room} {cases} {symbols} hints allowance runnable cleared begins =
     record {
       runnable = runnable;
-      going = going-starts image (lentOf masks levels cases symbols) (termsOf hints allowance)
-          (runnable-even (lentOf masks levels cases symbols) runnable) cleared head (runnable .image-read) begins;
-      long-masks = refl;
-      long-levels = refl;
+      going = going-starts image (lentOf room cases symbols) (termsOf hints allowance)
+          (runnable-even (lentOf room cases symbols) runnable) cleared head (runnable .image-read) begins;
+      long = record { masks = refl; levels = refl; entered = refl };
       long-cases = refl;
       long-symbols = refl;
     }
 
-module _ {image : List ℕ} {head : Head} {lent : Lent} {terms : Terms} {masks levels cases symbols : List ℕ} {run : Run}
-    (driven : Driven image head lent terms masks levels cases symbols run) where
+module _ {image : List ℕ} {head : Head} {lent : Lent} {terms : Terms} {room : BlockerRoom} {cases symbols : List ℕ} {run : Run}
+    (driven : Driven image head lent terms room cases symbols run) where
   valid : Valid image
   valid = driven .runnable .image-read .valid
 
@@ -223,19 +235,19 @@ module _ {image : List ℕ} {head : Head} {lent : Lent} {terms : Terms} {masks l
   pub drive-read : ReadAs image head
   drive-read = driven .runnable .image-read
 
-  pub drive-ready : run .answer ≡ 6 → Ready (stage masks levels cases symbols run)
+  pub drive-ready : run .answer ≡ 6 → Ready (stage room cases symbols run)
   drive-ready six = going-ready image lent terms valid even (driven .going) six (driven .runnable .rooms .few-places)
 
-  module _ (six : run .answer ≡ 6) {masks′ levels′ cases′ symbols′ : List ℕ} {later : Run}
-      (made : stage masks′ levels′ cases′ symbols′ later ≡ stepOf image terms (stage masks levels cases symbols run)) where
-    pub drive-goes : length masks′ ≡ length masks → length levels′ ≡ length levels → length cases′ ≡ length cases → length symbols′ ≡ length symbols
-        → Driven image head lent terms masks′ levels′ cases′ symbols′ later
-    drive-goes m l c s =
+  module _ (six : run .answer ≡ 6) {room′ : BlockerRoom} {cases′ symbols′ : List ℕ} {later : Run}
+      (made : stage room′ cases′ symbols′ later ≡ stepOf image terms (stage room cases symbols run)) where
+    pub drive-goes : length (room′ .masks) ≡ length (room .masks) → length (room′ .levels) ≡ length (room .levels)
+        → length (room′ .entered) ≡ length (room .entered) → length cases′ ≡ length cases → length symbols′ ≡ length symbols
+        → Driven image head lent terms room′ cases′ symbols′ later
+    drive-goes m l e c s =
         record {
           runnable = driven .runnable;
           going = going-goes image lent terms valid even (driven .going) six made;
-          long-masks = m ∙ driven .long-masks;
-          long-levels = l ∙ driven .long-levels;
+          long = record { masks = m ∙ driven .long .masks; levels = l ∙ driven .long .levels; entered = e ∙ driven .long .entered };
           long-cases = c ∙ driven .long-cases;
           long-symbols = s ∙ driven .long-symbols;
         }
@@ -243,6 +255,6 @@ module _ {image : List ℕ} {head : Head} {lent : Lent} {terms : Terms} {masks l
     pub drive-less : remaining (terms .allowance) (later .answer) (later .steps) < remaining (terms .allowance) (run .answer) (run .steps)
     drive-less = going-less image lent terms valid even (driven .going) six made
 
-  pub drive-ends : (run .answer ≡ 6 → ⊥) → resultWith (countsIn run) masks levels cases symbols ≡ machineResult image lent terms
+  pub drive-ends : (run .answer ≡ 6 → ⊥) → resultWith (countsIn run) room cases symbols ≡ machineResult image lent terms
   unfolding machineResult
   drive-ends n = going-ends image lent terms (driven .going) n

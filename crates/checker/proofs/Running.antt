@@ -8,7 +8,7 @@ use native.Mathlib.Omega.{arith}
 use lib.ListN.{length, take, replicate, length-replicate, drop-of-length-le}
 use Rattle.lists.specs.Tests.{choose}
 use Rattle.masks.specs.Sets.{subset}
-use Rattle.machine.specs.Lent.{columnBack, placed}
+use Rattle.machine.specs.Lent.{BlockerRoom, columnBack, placed}
 use Rattle.machine.proofs.LentTables.{placed-none}
 use Rattle.blockers.specs.Room.{over}
 use Rattle.blockers.specs.Room as Room
@@ -33,14 +33,21 @@ all-cleared before =
     let whole : length before ≤ length before = omega arith in
     rw (length-replicate, sub-zero, drop-of-length-le before whole, append-nil)
 
-pub cleared-is : {masks levels cases symbols masks′ levels′ cases′ symbols′ : List ℕ} → Checked masks levels cases symbols
-    → Room.Cleared 0 (length masks) masks levels masks′ levels′ → PlacedWord (length cases) [] cases symbols cases′ symbols′
-    → Cleared masks levels cases symbols masks′ levels′ cases′ symbols′
+pub cleared-is : {room room′ : BlockerRoom} {cases symbols cases′ symbols′ : List ℕ} → Checked room cases symbols
+    → Room.Cleared 0 (length (room .masks)) room room′ → PlacedWord (length cases) [] cases symbols cases′ symbols′
+    → Cleared room cases symbols room′ cases′ symbols′
 unfolding columnBack
-cleared-is {masks} {levels} {cases} {symbols} checked blockers word =
+cleared-is {room} {room′} {cases} {symbols} checked blockers word =
     record {
-      new-masks = blockers .new-masks ∙ all-cleared masks;
-      new-levels = blockers .new-levels ∙ ap (λ (k : ℕ). over (take 0 levels ++ replicate (k - 0) 0) levels) (checked .blocker-room) ∙ all-cleared levels;
+      new-room = blockers .tables ∙ rw (
+        all-cleared (room .masks),
+        zeros (room .levels) (checked .blocker-room .levels),
+        zeros (room .entered) (checked .blocker-room .entered),
+      );
       new-cases = word .new-cases ∙ placed-none cases;
       new-symbols = word .new-symbols ∙ ap (λ (k : ℕ). placed k [] symbols) (checked .word-room) ∙ placed-none symbols;
     }
+  where
+    zeros : (before : List ℕ) → length (room .masks) ≡ length before
+        → over (take 0 before ++ replicate (length (room .masks) - 0) 0) before ≡ replicate (length before) 0
+    zeros before e = ap (λ (k : ℕ). over (take 0 before ++ replicate (k - 0) 0) before) e ∙ all-cleared before

@@ -6,18 +6,21 @@ use mathlib.Core.List.{List, [], _∷_}
 use native.Mathlib.Omega.{arith}
 use Rattle.lists.specs.Tests.{choose}
 use Rattle.machine.specs.Machine.{Blocker, Configuration, blocked, finalPending, Outcome, Next, ends, comesTo}
-use Rattle.machine.specs.Lent.{blockersFrom, pendingFirst, column, columnBack, maskOf, levelOf, placed}
+use Rattle.machine.specs.Lent.{BlockerRoom, roomOf, pendingFirst, columnBack, placed}
 use Rattle.machine.specs.Runs.{numberOf, casesIn, symbolsIn, tablesAfter}
 use Rattle.machine.specs.Records.{configurationOf, pendingOf, recordOf, after}
-use Rattle.blockers.specs.Room.{Holds, Placed, tableOf}
-use Rattle.blockers.proofs.Placing.{same-masks, same-levels, blockers-length}
+use Rattle.blockers.specs.Room.{Holds, HoldsRoom, tableOf}
+use Rattle.blockers.proofs.Placing.{own-room, blockers-length}
 use Rattle.pending.specs.Room.{Holds as HoldsWord, Placed as PlacedWord}
 use Rattle.checker.specs.declared.record.Run.{Run}
 use Rattle.checker.specs.Stage.{recordIn, stage, Ready, leftOf, Leaves, Pends}
 
-module _ {masks levels cases symbols : List ℕ} {run : Run} (ready : Ready (stage masks levels cases symbols run)) where
-  pub ready-holds : Holds (run .held) masks levels
-  ready-holds = record { in-masks = ready .held-fits; in-levels = omega (arith, ready .held-fits, ready .blocker-room) }
+module _ {room : BlockerRoom} {cases symbols : List ℕ} {run : Run} (ready : Ready (stage room cases symbols run)) where
+  pub ready-holds : HoldsRoom (run .held) room
+  ready-holds = record {
+    read = record { in-masks = ready .held-fits; in-levels = omega (arith, ready .held-fits, ready .blocker-room .levels) };
+    in-entered = omega (arith, ready .held-fits, ready .blocker-room .entered);
+  }
 
   pub ready-word : HoldsWord (run .pending) cases symbols
   ready-word =
@@ -27,25 +30,27 @@ module _ {masks levels cases symbols : List ℕ} {run : Run} (ready : Ready (sta
       }
 
   -- the blockers stay: only the word room and the record change
-  pub word-changes : (n : Next) {r : Run} {cases′ symbols′ : List ℕ} → comesTo n .table ≡ blockersFrom masks levels (run .held) 0
+  pub word-changes : (n : Next) {r : Run} {cases′ symbols′ : List ℕ} → comesTo n .table ≡ tableOf (run .held) room
       → cases′ ≡ placed (run .pending) (casesIn n) cases → symbols′ ≡ placed (run .pending) (symbolsIn n) symbols → recordIn r ≡ recordOf n
-      → stage masks levels cases′ symbols′ r ≡ after (stage masks levels cases symbols run) n
+      → stage room cases′ symbols′ r ≡ after (stage room cases symbols run) n
   unfolding after tablesAfter
   word-changes n table cases-are symbols-are record-is =
-      let kept : Placed (run .held) (tableOf (run .held) masks levels) masks levels
-      (placed (run .held) (column maskOf (tableOf (run .held) masks levels)) masks) (placed (run .held) (column levelOf (tableOf (run .held) masks levels)) levels)
-      = record { new-masks = refl; new-levels = refl } in
-      rw (cases-are, symbols-are, record-is, table, same-masks ready-holds kept, same-levels ready-holds kept)
+      rw (cases-are, symbols-are, record-is, table, own-room ready-holds)
 
   -- a stop: the word room is cleared, and nothing else of the record changes
-  pub stopped-is : (o : Outcome) {r : Run} {cases′ symbols′ : List ℕ} → comesTo (ends o) ≡ configurationOf (stage masks levels cases symbols run)
+  pub stopped-is : (o : Outcome) {r : Run} {cases′ symbols′ : List ℕ} → comesTo (ends o) ≡ configurationOf (stage room cases symbols run)
       → symbolsIn (ends o) ≡ [] → Leaves run (leftOf run (numberOf (ends o)) 0) [] [] r cases symbols cases′ symbols′
-      → stage masks levels cases′ symbols′ r ≡ after (stage masks levels cases symbols run) (ends o)
+      → stage room cases′ symbols′ r ≡ after (stage room cases symbols run) (ends o)
   unfolding casesIn recordOf pendingOf
   stopped-is o e none leaves =
       word-changes (ends o) (ap (λ (c : Configuration). c .table) e) (leaves .cases-are)
       (leaves .symbols-are ∙ ap (λ (s : List ℕ). placed (run .pending) s symbols) (sym none))
-      (ap recordIn (leaves .record-is) ∙ sym (rw (e, blockers-length masks levels (run .held) 0)))
+      (ap recordIn (leaves .record-is) ∙ sym (rw (e, blockers-length room (run .held) 0)))
+
+-- what a function that only reads knows of masks and levels
+pub ready-read : {masks levels entered cases symbols : List ℕ} {run : Run} → Ready (stage (roomOf masks levels entered) cases symbols run)
+    → Holds (run .held) masks levels
+ready-read ready = ready-holds ready .read
 
 -- the word room cleared, and the record with its number
 pub stop-is : (run : Run) (number : ℕ) {r : Run} {cases symbols cases′ symbols′ : List ℕ} → PlacedWord (run .pending) [] cases symbols cases′ symbols′

@@ -19,11 +19,13 @@ use Rattle.automata.specs.declared.image.Symbol.{Symbol}
 use Rattle.machine.specs.System.{System}
 use Rattle.machine.specs.Machine.{Blocker, Pending, Configuration, Given, oneMore, blocked, settled, qualifies, wordOf, extendStep, workOn, workStep, stepOn, step}
 use Rattle.machine.specs.Machine.{Step, nonempty, goesOn, ends, judge}
-use Rattle.machine.specs.Lent.{blockersFrom, blockersIn, pendingFirst}
+use Rattle.machine.specs.Lent.{BlockerRoom, blockersIn, pendingFirst}
 use Rattle.machine.specs.Runs.{systemOf, givenOf, roomsOf, numberOf, casesIn, symbolsIn}
 use Rattle.machine.specs.Records.{Stage, configurationOf, pendingOf, recordOf, after}
 use Rattle.machine.proofs.LentTables.{pending-length}
-use Rattle.blockers.proofs.Parts.{part-table}
+use Rattle.machine.proofs.Unstamped.{same-qualifies}
+use Rattle.blockers.specs.Room.{tableOf}
+use Rattle.blockers.proofs.Parts.{part-alike}
 use Rattle.blockers.proofs.Placing.{blockers-length}
 use Rattle.choices.specs.Found.{ReadAs, foundOf}
 use Rattle.choices.specs.declared.Found.{Found}
@@ -48,16 +50,16 @@ unfolding foundOf
 found-none S X none e = refl
 found-none S X (some s) e = let z : _≡_ {A = ℕ} 0 1 = cc in absurd (omega arith)
 
-module _ {image : List ℕ} {head : Head} {masks levels cases symbols : List ℕ} {run : Run} (read : ReadAs image head)
-    (ready : Ready (stage masks levels cases symbols run)) (one : 1 ≤ run .pending) where
+module _ {image : List ℕ} {head : Head} {room : BlockerRoom} {cases symbols : List ℕ} {run : Run} (read : ReadAs image head)
+    (ready : Ready (stage room cases symbols run)) (one : 1 ≤ run .pending) where
   S : System
   S = systemOf image
 
   here : Stage
-  here = stage masks levels cases symbols run
+  here = stage room cases symbols run
 
   c : Configuration
-  c = configurationOf (stage masks levels cases symbols run)
+  c = configurationOf (stage room cases symbols run)
 
   -- the lowest pending case, its level but one, and the cases above it
   X : ℕ
@@ -73,7 +75,7 @@ module _ {image : List ℕ} {head : Head} {masks levels cases symbols : List ℕ
   lowest = record { case = getD cases (run .pending - 1) 0; symbol = getD symbols (run .pending - 1) 0 }
 
   table : List Blocker
-  table = blockersFrom masks levels (run .held) 0
+  table = tableOf (run .held) room
 
   all-pending : pendingFirst cases symbols (run .pending) ≡ lowest ∷ rest
   unfolding pendingFirst lowest rest
@@ -95,19 +97,22 @@ module _ {image : List ℕ} {head : Head} {masks levels cases symbols : List ℕ
   worked given o e = rw (all-pending, below-is, e)
 
   module _ (hints : List ℕ) {found : Found} (search-is : found ≡ foundOf (systemOf image) (getD cases (run .pending - 1) 0)
-      (firstFrom (qualifies (systemOf image) (blockersIn (take (run .held) masks) (take (run .held) levels)) (run .level .0 - run .pending) (getD cases (run .pending - 1) 0))
+      (firstFrom (qualifies (systemOf image) (blockersIn (take (run .held) (room .masks)) (take (run .held) (room .levels))) (run .level .0 - run .pending) (getD cases (run .pending - 1) 0))
       (symbolsOf image) 0)) where
     found-is : found ≡ foundOf S X first
     unfolding S X first below table
-    found-is = search-is ∙ rw (part-table (ready-holds ready))
+    found-is =
+        search-is
+        ∙ ap (λ (test : ℕ → Bool). foundOf (systemOf image) (getD cases (run .pending - 1) 0) (firstFrom test (symbolsOf image) 0))
+        (same-qualifies (systemOf image) (part-alike (ready-holds ready) (initialOf image)) (run .level .0 - run .pending) (getD cases (run .pending - 1) 0))
 
     pub work-blocks : {later : Stage} → found ≡ Nothing
         → later ≡ madeBy (blockOf image hints (pendingFirst cases symbols (run .pending - 1)) (run .level .0 - run .pending) (getD cases (run .pending - 1) 0))
-        (stage masks levels cases symbols run)
-        → later ≡ madeBy (step (systemOf image) (givenOf image (hintsOf hints))) (stage masks levels cases symbols run)
+        (stage room cases symbols run)
+        → later ≡ madeBy (step (systemOf image) (givenOf image (hintsOf hints))) (stage room cases symbols run)
     unfolding madeBy blockOf workOn S c lowest rest below X
     work-blocks nothing made =
-        made ∙ ap (λ (st : Step). after (stage masks levels cases symbols run) (judge (roomsOf (stage masks levels cases symbols run .tables)) (configurationOf (stage masks levels cases symbols run)) st))
+        made ∙ ap (λ (st : Step). after (stage room cases symbols run) (judge (roomsOf (stage room cases symbols run .tables)) (configurationOf (stage room cases symbols run)) st))
         (sym (worked (givenOf image (hintsOf hints)) none (found-none _ _ _ (sym found-is ∙ nothing))))
 
     module _ (symbol : Symbol) (case : ℕ) (is : found ≡ At symbol case) where
@@ -146,18 +151,18 @@ module _ {image : List ℕ} {head : Head} {masks levels cases symbols : List ℕ
       module _ {cases′ symbols′ : List ℕ} {r : Run} where
         finds : subset (head .initial) case ≡ true
             → Leaves run (countedOf run 1 0) [] (symbol .0 ∷ wordOf (pendingFirst cases symbols (run .pending))) r cases symbols cases′ symbols′
-            → stage masks levels cases′ symbols′ r ≡ madeBy (step (systemOf image) (givenOf image (hintsOf hints))) (stage masks levels cases symbols run)
+            → stage room cases′ symbols′ r ≡ madeBy (step (systemOf image) (givenOf image (hintsOf hints))) (stage room cases symbols run)
         unfolding madeBy judge extendStep casesIn symbolsIn recordOf numberOf pendingOf S c table here
         finds inside leaves =
             word-changes ready (ends (nonempty (symbol .0 ∷ wordOf (lowest ∷ rest)) (oneMore c table (run .level .0) (run .opened) []))) refl
             (leaves .cases-are) (leaves .symbols-are ∙ rw all-pending)
-            (rw (leaves .record-is, add-one (run .steps), blockers-length masks levels (run .held) 0))
+            (rw (leaves .record-is, add-one (run .steps), blockers-length room (run .held) 0))
             ∙ sym (ap (λ (st : Step). after here (judge (roomsOf (here .tables)) c st)) (extends-by true inside))
 
         pends : subset (head .initial) case ≡ false
             → LeavesPending run (countedOf run 6 (run .pending + 1)) (record { case = case; symbol = symbol .0 } ∷ pendingFirst cases symbols (run .pending)) r
             cases symbols cases′ symbols′
-            → stage masks levels cases′ symbols′ r ≡ madeBy (step (systemOf image) (givenOf image (hintsOf hints))) (stage masks levels cases symbols run)
+            → stage room cases′ symbols′ r ≡ madeBy (step (systemOf image) (givenOf image (hintsOf hints))) (stage room cases symbols run)
         unfolding madeBy judge extendStep casesIn symbolsIn recordOf numberOf pendingOf S c table here X lowest rest
         pends outside leaves =
             let now-pending : List Pending = record { case = S .backward (symbol .0) X; symbol = symbol .0 } ∷ lowest ∷ rest in
@@ -165,17 +170,17 @@ module _ {image : List ℕ} {head : Head} {masks levels cases symbols : List ℕ
             let e : record { case = case; symbol = symbol .0 } ∷ pendingFirst cases symbols (run .pending) ≡ now-pending = rw (case-is, all-pending) in
             word-changes ready (goesOn (oneMore c table (run .level .0) (run .opened) now-pending)) refl
             (leaves .cases-are ∙ rw e) (leaves .symbols-are ∙ rw e)
-            (rw (leaves .record-is, add-one (run .steps), blockers-length masks levels (run .held) 0, counted))
+            (rw (leaves .record-is, add-one (run .steps), blockers-length room (run .held) 0, counted))
             ∙ sym (ap (λ (st : Step). after here (judge (roomsOf (here .tables)) c st)) (extends-by false outside))
 
         pub work-extends : Extended (subset (head .initial) case) run (record { case = case; symbol = symbol .0 }) (pendingFirst cases symbols (run .pending)) r
             cases symbols cases′ symbols′
-            → stage masks levels cases′ symbols′ r ≡ madeBy (step (systemOf image) (givenOf image (hintsOf hints))) (stage masks levels cases symbols run)
+            → stage room cases′ symbols′ r ≡ madeBy (step (systemOf image) (givenOf image (hintsOf hints))) (stage room cases symbols run)
         work-extends = at (subset (head .initial) case) refl
           where
             at : (b : Bool) → subset (head .initial) case ≡ b
                 → Extended b run (record { case = case; symbol = symbol .0 }) (pendingFirst cases symbols (run .pending)) r cases symbols cases′ symbols′
-                → stage masks levels cases′ symbols′ r ≡ madeBy (step (systemOf image) (givenOf image (hintsOf hints))) (stage masks levels cases symbols run)
+                → stage room cases′ symbols′ r ≡ madeBy (step (systemOf image) (givenOf image (hintsOf hints))) (stage room cases symbols run)
             at true e leaves = finds e leaves
             at false e leaves = pends e leaves
 

@@ -8,15 +8,15 @@ use Rattle.lists.specs.Tests.{choose}
 use Rattle.automata.specs.Image.{initialOf, finalOf}
 use Rattle.machine.specs.System.{System}
 use Rattle.machine.specs.Machine.{Pending, Configuration, Step, judge, wordOf, blockStep, chosen}
-use Rattle.machine.specs.Lent.{columnBack, caseOf, symbolOf, placed}
+use Rattle.machine.specs.Lent.{BlockerRoom, EvenRoom, columnBack, caseOf, symbolOf, placed}
 use Rattle.machine.specs.Runs.{Lent, Terms, systemOf, roomsOf, givenOf}
 use Rattle.machine.specs.Records.{RunRecord, Stage, configurationOf, after}
 use Rattle.blockers.specs.Room.{tableOf, Placed}
 use Rattle.closing.specs.Close.{isEmpty, emptyLevel, closedBy}
 use Rattle.checker.specs.declared.record.Run.{Run}
 
-abbrev pub lentOf : List ℕ → List ℕ → List ℕ → List ℕ → Lent
-lentOf masks levels cases symbols = record { masks = masks; levels = levels; cases = cases; symbols = symbols }
+abbrev pub lentOf : BlockerRoom → List ℕ → List ℕ → Lent
+lentOf room cases symbols = record { room = room; cases = cases; symbols = symbols }
 
 abbrev pub termsOf : List ℕ → ℕ → Terms
 termsOf hints allowance = record { hints = hints; allowance = allowance }
@@ -39,8 +39,8 @@ recordIn run = record {
 }
 
 -- the tables and the record, as they stand between two steps
-abbrev pub stage : List ℕ → List ℕ → List ℕ → List ℕ → Run → Stage
-stage masks levels cases symbols run = record { tables = lentOf masks levels cases symbols; run = recordIn run }
+abbrev pub stage : BlockerRoom → List ℕ → List ℕ → Run → Stage
+stage room cases symbols run = record { tables = lentOf room cases symbols; run = recordIn run }
 
 -- what a machine's step leaves, judged by the rooms
 unfoldable pub madeBy : (Configuration → Step) → Stage → Stage
@@ -54,9 +54,9 @@ blockOf image hints rest below X c =
 -- What a step needs of the tables and the record: the places in use are there, the rooms' tables are of one length and have at most 65,536 places, no
 -- more cases are pending than there are levels, and no more blocks or hints accepted than steps.
 pub record Ready (at : Stage) : Type 0 where
-  pub blocker-room : length (at .tables .masks) ≡ length (at .tables .levels)
+  pub blocker-room : EvenRoom (at .tables .room)
   pub word-room : length (at .tables .cases) ≡ length (at .tables .symbols)
-  pub held-fits : at .run .held ≤ length (at .tables .masks)
+  pub held-fits : at .run .held ≤ length (at .tables .room .masks)
   pub level-fits : at .run .level ≤ length (at .tables .cases)
   pub pending-fits : at .run .pending ≤ at .run .level
   pub room-fits : length (at .tables .cases) ≤ 65536
@@ -116,10 +116,10 @@ closedOf run answer held = record {
 }
 
 -- the close of the run's level: it works on or ends with the frame, and the blockers that stay stand in place of those that were held
-pub record ClosesLevel (S : System) (run r : Run) (masks levels masks′ levels′ : List ℕ) : Type 0 where
-  pub record-is : r ≡ closedOf run (choose (isEmpty (emptyLevel S (run .level .0) (tableOf (run .held) masks levels))) 0 6)
-      (length (closedBy S (run .level .0) (tableOf (run .held) masks levels)))
-  pub tables : Placed (run .held) (closedBy S (run .level .0) (tableOf (run .held) masks levels)) masks levels masks′ levels′
+pub record ClosesLevel (S : System) (run r : Run) (room room′ : BlockerRoom) : Type 0 where
+  pub record-is : r ≡ closedOf run (choose (isEmpty (emptyLevel S (run .level .0) (tableOf (run .held) room))) 0 6)
+      (length (closedBy S (run .level .0) (tableOf (run .held) room)))
+  pub tables : Placed (run .held) (closedBy S (run .level .0) (tableOf (run .held) room)) room room′
 
 -- the record became this one, and these cases and symbols stand in place of those that were pending
 pub record Leaves (run became : Run) (new-cases new-symbols : List ℕ) (r : Run) (cases symbols cases′ symbols′ : List ℕ) : Type 0 where
@@ -130,6 +130,25 @@ pub record Leaves (run became : Run) (new-cases new-symbols : List ℕ) (r : Run
 -- the same with these cases pending
 abbrev pub LeavesPending : Run → Run → List Pending → Run → List ℕ → List ℕ → List ℕ → List ℕ → Type 0
 LeavesPending run became pending = Leaves run became (columnBack caseOf pending) (columnBack symbolOf pending)
+
+-- the record after an open, with so many cases pending
+abbrev pub openedOf : Run → ℕ → Run
+openedOf run pending = record {
+  answer = 6;
+  steps = run .steps + 1;
+  level = record { 0 = run .level .0 + 1 };
+  opened = true;
+  held = run .held;
+  pending = pending;
+  blocks = run .blocks;
+  accepted = run .accepted;
+}
+
+-- "Open: N grows by 1 and is open", with these cases pending then; or, "the level equals the word room", the run ends under 4. The first argument is
+-- whether there is a level more in the word room.
+abbrev pub Opened : Bool → Run → List Pending → Run → List ℕ → List ℕ → List ℕ → List ℕ → Type 0
+Opened true run pending = LeavesPending run (openedOf run (length pending)) pending
+Opened false run pending = Leaves run (leftOf run 4 0) [] []
 
 -- after a blocker has entered, so that `held` are held, and took a hint or not: these cases are pending
 abbrev pub Unpends : Run → ℕ → ℕ → List Pending → Run → List ℕ → List ℕ → List ℕ → List ℕ → Type 0

@@ -7,6 +7,7 @@ use lib.ListN.{length, replicate}
 use Rattle.lists.specs.Tests.{choose}
 use Rattle.masks.specs.Sets.{subset}
 use Rattle.automata.specs.declared.image.Head.{Head}
+use Rattle.machine.specs.Lent.{BlockerRoom, EvenRoom, eachTable}
 use Rattle.machine.specs.Runs.{Lent, Terms, Result, roomsOf, resultOf, endOf}
 use Rattle.choices.specs.Found.{ReadAs}
 use Rattle.checker.specs.Stage.{lentOf}
@@ -24,26 +25,25 @@ countsIn run = record {
 }
 
 -- the five numbers with what the tables hold
-abbrev pub resultWith : Counts → List ℕ → List ℕ → List ℕ → List ℕ → Result
-resultWith counts masks levels cases symbols = record {
+abbrev pub resultWith : Counts → BlockerRoom → List ℕ → List ℕ → Result
+resultWith counts room cases symbols = record {
   number = counts .number;
   steps = counts .steps;
   level = counts .level .0;
   blockers = counts .blockers;
   accepted = counts .accepted;
-  tables = lentOf masks levels cases symbols;
+  tables = lentOf room cases symbols;
 }
 
 -- the rooms have passed their checks
-pub record Checked (masks levels cases symbols : List ℕ) : Type 0 where
-  pub blocker-room : length masks ≡ length levels
+pub record Checked (room : BlockerRoom) (cases symbols : List ℕ) : Type 0 where
+  pub blocker-room : EvenRoom room
   pub word-room : length cases ≡ length symbols
   pub few-places : length cases ≤ 65536
 
 -- every place holds 0
-pub record Cleared (masks levels cases symbols masks′ levels′ cases′ symbols′ : List ℕ) : Type 0 where
-  pub new-masks : masks′ ≡ replicate (length masks) 0
-  pub new-levels : levels′ ≡ replicate (length levels) 0
+pub record Cleared (room : BlockerRoom) (cases symbols : List ℕ) (room′ : BlockerRoom) (cases′ symbols′ : List ℕ) : Type 0 where
+  pub new-room : room′ ≡ eachTable (λ field before. replicate (length before) 0) room
   pub new-cases : cases′ ≡ replicate (length cases) 0
   pub new-symbols : symbols′ ≡ replicate (length symbols) 0
 
@@ -61,9 +61,9 @@ startRecord initial finals = record {
 }
 
 -- what the machine's run needs: a valid image's head, and rooms that have passed their checks
-pub record Runnable (image : List ℕ) (head : Head) (masks levels cases symbols : List ℕ) : Type 0 where
+pub record Runnable (image : List ℕ) (head : Head) (room : BlockerRoom) (cases symbols : List ℕ) : Type 0 where
   pub image-read : ReadAs image head
-  pub rooms : Checked masks levels cases symbols
+  pub rooms : Checked room cases symbols
 
 -- the result of the machine's run in these rooms
 unfoldable pub machineResult : List ℕ → Lent → Terms → Result

@@ -5,6 +5,7 @@ use automata::image::Head;
 use automata::image::Image;
 use blockers::Level;
 ghost use mathlib.Core.Path.{_≡_};
+ghost use Rattle.machine.specs.Lent.{roomOf};
 ghost use Rattle.machine.specs.Runs.{checkRooms, runOf};
 ghost use Rattle.checker.specs.Stage.{lentOf, termsOf};
 ghost use Rattle.checker.specs.Whole.{Checked, Cleared, Runnable, startRecord, countsIn, resultWith, machineResult};
@@ -51,20 +52,36 @@ fn begin(head: Head) -> Run
     }
 }
 
-// Every place of the four tables becomes 0.
-fn clear(masks: &mut [u64], levels: &mut [u32], cases: &mut [u64], symbols: &mut [u8])
-    requires { ⌜ Checked (now masks) (now levels) (now cases) (now symbols) ⌝ }
-    ensures { λ _. ⌜ Cleared (now (masks .entry)) (now (levels .entry)) (now (cases .entry)) (now (symbols .entry)) (now (masks .exit)) (now (levels .exit)) (now (cases .exit)) (now (symbols .exit)) ⌝ }
+// Every place of the five tables becomes 0.
+fn clear(
+    masks: &mut [u64],
+    levels: &mut [u32],
+    entered: &mut [u64],
+    cases: &mut [u64],
+    symbols: &mut [u8],
+)
+    requires { ⌜ Checked (roomOf (now masks) (now levels) (now entered)) (now cases) (now symbols) ⌝ }
+    ensures { λ _. ⌜ Cleared (roomOf (now (masks .entry)) (now (levels .entry)) (now (entered .entry))) (now (cases .entry)) (now (symbols .entry)) (roomOf (now (masks .exit)) (now (levels .exit)) (now (entered .exit))) (now (cases .exit)) (now (symbols .exit)) ⌝ }
 {
-    blockers::clear(masks, levels, 0, masks.len());
+    blockers::clear(masks, levels, entered, 0, masks.len());
     pending::clear(cases, symbols, cases.len());
 }
 
-// 0, or 30 where the two tables of one room differ in length, or 31 where a room or the hint table has over 65,536 places.
-fn check_rooms(masks: &[u64], levels: &[u32], cases: &[u64], symbols: &[u8], hints: &[u64]) -> u64
-    ensures { λ r. ⌜ r ≡ checkRooms (lentOf (now (masks .entry)) (now (levels .entry)) (now (cases .entry)) (now (symbols .entry))) (now (hints .entry)) 0 ⌝ }
+// 0, or 30 where the tables of one room differ in length, or 31 where a room or the hint table has over 65,536 places.
+fn check_rooms(
+    masks: &[u64],
+    levels: &[u32],
+    entered: &[u64],
+    cases: &[u64],
+    symbols: &[u8],
+    hints: &[u64],
+) -> u64
+    ensures { λ r. ⌜ r ≡ checkRooms (lentOf (roomOf (now (masks .entry)) (now (levels .entry)) (now (entered .entry))) (now (cases .entry)) (now (symbols .entry))) (now (hints .entry)) 0 ⌝ }
 {
     if masks.len() != levels.len() {
+        return 30;
+    }
+    if masks.len() != entered.len() {
         return 30;
     }
     if cases.len() != symbols.len() {
@@ -88,14 +105,15 @@ fn drive(
     head: Head,
     masks: &mut [u64],
     levels: &mut [u32],
+    entered: &mut [u64],
     cases: &mut [u64],
     symbols: &mut [u8],
     hints: &[u64],
     allowance: u64,
 ) -> Run
-    requires { ⌜ Runnable (now image) head (now masks) (now levels) (now cases) (now symbols) × Cleared (now masks) (now levels) (now cases) (now symbols) (now masks) (now levels) (now cases) (now symbols) ⌝ }
-    ensures { λ r. ⌜ resultWith (countsIn r) (now (masks .exit)) (now (levels .exit)) (now (cases .exit)) (now (symbols .exit))
-        ≡ machineResult (now (image .entry)) (lentOf (now (masks .entry)) (now (levels .entry)) (now (cases .entry)) (now (symbols .entry))) (termsOf (now (hints .entry)) allowance) ⌝ }
+    requires { ⌜ Runnable (now image) head (roomOf (now masks) (now levels) (now entered)) (now cases) (now symbols) × Cleared (roomOf (now masks) (now levels) (now entered)) (now cases) (now symbols) (roomOf (now masks) (now levels) (now entered)) (now cases) (now symbols) ⌝ }
+    ensures { λ r. ⌜ resultWith (countsIn r) (roomOf (now (masks .exit)) (now (levels .exit)) (now (entered .exit))) (now (cases .exit)) (now (symbols .exit))
+        ≡ machineResult (now (image .entry)) (lentOf (roomOf (now (masks .entry)) (now (levels .entry)) (now (entered .entry))) (now (cases .entry)) (now (symbols .entry))) (termsOf (now (hints .entry)) allowance) ⌝ }
 {
     let mut run = begin(head);
     while run.answer == 6 {
@@ -104,6 +122,7 @@ fn drive(
             head,
             masks,
             levels,
+            entered,
             cases,
             symbols,
             hints,
@@ -134,17 +153,28 @@ fn go(
     head: Head,
     masks: &mut [u64],
     levels: &mut [u32],
+    entered: &mut [u64],
     cases: &mut [u64],
     symbols: &mut [u8],
     hints: &[u64],
     allowance: u64,
 ) -> Counts
-    requires { ⌜ Runnable (now image) head (now masks) (now levels) (now cases) (now symbols) ⌝ }
-    ensures { λ r. ⌜ resultWith r (now (masks .exit)) (now (levels .exit)) (now (cases .exit)) (now (symbols .exit))
-        ≡ machineResult (now (image .entry)) (lentOf (now (masks .entry)) (now (levels .entry)) (now (cases .entry)) (now (symbols .entry))) (termsOf (now (hints .entry)) allowance) ⌝ }
+    requires { ⌜ Runnable (now image) head (roomOf (now masks) (now levels) (now entered)) (now cases) (now symbols) ⌝ }
+    ensures { λ r. ⌜ resultWith r (roomOf (now (masks .exit)) (now (levels .exit)) (now (entered .exit))) (now (cases .exit)) (now (symbols .exit))
+        ≡ machineResult (now (image .entry)) (lentOf (roomOf (now (masks .entry)) (now (levels .entry)) (now (entered .entry))) (now (cases .entry)) (now (symbols .entry))) (termsOf (now (hints .entry)) allowance) ⌝ }
 {
-    clear(masks, levels, cases, symbols);
-    count_up(drive(image, head, masks, levels, cases, symbols, hints, allowance))
+    clear(masks, levels, entered, cases, symbols);
+    count_up(drive(
+        image,
+        head,
+        masks,
+        levels,
+        entered,
+        cases,
+        symbols,
+        hints,
+        allowance,
+    ))
 }
 
 // A run: refused under the number of the first check that applies, with every table as it was; else the machine's run, in the lent rooms.
@@ -152,22 +182,33 @@ pub fn run(
     image: &[u8],
     masks: &mut [u64],
     levels: &mut [u32],
+    entered: &mut [u64],
     cases: &mut [u64],
     symbols: &mut [u8],
     hints: &[u64],
     allowance: u64,
 ) -> Counts
-    ensures { λ r. ⌜ resultWith r (now (masks .exit)) (now (levels .exit)) (now (cases .exit)) (now (symbols .exit))
-        ≡ runOf (now (image .entry)) (lentOf (now (masks .entry)) (now (levels .entry)) (now (cases .entry)) (now (symbols .entry))) (termsOf (now (hints .entry)) allowance) ⌝ }
+    ensures { λ r. ⌜ resultWith r (roomOf (now (masks .exit)) (now (levels .exit)) (now (entered .exit))) (now (cases .exit)) (now (symbols .exit))
+        ≡ runOf (now (image .entry)) (lentOf (roomOf (now (masks .entry)) (now (levels .entry)) (now (entered .entry))) (now (cases .entry)) (now (symbols .entry))) (termsOf (now (hints .entry)) allowance) ⌝ }
 {
     match automata::image::read_image(image) {
         Image::Refused(number) => refuse(number as u64),
         Image::Valid(head) => {
-            let number = check_rooms(masks, levels, cases, symbols, hints);
+            let number = check_rooms(masks, levels, entered, cases, symbols, hints);
             if number != 0 {
                 return refuse(number);
             }
-            go(image, head, masks, levels, cases, symbols, hints, allowance)
+            go(
+                image,
+                head,
+                masks,
+                levels,
+                entered,
+                cases,
+                symbols,
+                hints,
+                allowance,
+            )
         }
     }
 }

@@ -10,16 +10,18 @@ ghost use mathlib.Core.Path.{_≡_};
 ghost use mathlib.Core.Bool.{true, false};
 ghost use mathlib.Core.List.{[], _∷_};
 ghost use Prim.Native.Nat.{_+_, _-_, _≤_, _<_};
+ghost use lib.Dec.{ltb};
+ghost use lib.ListN.{length};
 ghost use Rattle.lists.specs.Tests.{choose};
 ghost use Rattle.masks.specs.Sets.{subset as isSubset};
-ghost use Rattle.machine.specs.Machine.{finalPending, pendingAfter, openStep, blockStep, wordOf, step as machineStep};
-ghost use Rattle.machine.specs.Lent.{blockersFrom, blockersIn, pendingFirst};
+ghost use Rattle.machine.specs.Machine.{finalPending, pendingAfter, blockStep, wordOf, step as machineStep};
+ghost use Rattle.machine.specs.Lent.{roomOf, unstampedRoom, blockersFrom, blockersIn, pendingFirst};
 ghost use Rattle.machine.specs.Runs.{systemOf, givenOf};
 ghost use Rattle.machine.specs.Records.{stepOf};
-ghost use Rattle.blockers.specs.Room.{Holds};
+ghost use Rattle.blockers.specs.Room.{Holds, HoldsRoom};
 ghost use Rattle.choices.specs.Found.{ReadAs, choiceOf};
 ghost use Rattle.pending.specs.Room.{Holds as HoldsWord};
-ghost use Rattle.checker.specs.Stage.{stage, termsOf, hintsOf, madeBy, blockOf, Ready, leftOf, countedOf, Leaves, LeavesPending, Unpends, Extended, ClosesLevel, Pends, Countable};
+ghost use Rattle.checker.specs.Stage.{stage, termsOf, hintsOf, madeBy, blockOf, Ready, leftOf, countedOf, Leaves, LeavesPending, Opened, Unpends, Extended, ClosesLevel, Pends, Countable};
 
 // The run ends without a verdict, under the number of what it lacks: nothing stays pending.
 fn stop(cases: &mut [u64], symbols: &mut [u8], run: Run, number: u8) -> Run
@@ -79,9 +81,8 @@ fn open_level(
     symbols: &mut [u8],
     run: Run,
 ) -> Run
-    requires { ⌜ Ready (stage (now masks) (now levels) (now cases) (now symbols) run) × (run .pending ≡ 0) × (run .steps < 18446744073709551615) ⌝ }
-    ensures { λ r. ⌜ stage (now (masks .entry)) (now (levels .entry)) (now (cases .exit)) (now (symbols .exit)) r
-        ≡ madeBy (openStep (head .initial) (head .finals ∷ [])) (stage (now (masks .entry)) (now (levels .entry)) (now (cases .entry)) (now (symbols .entry)) run) ⌝ }
+    requires { ⌜ Holds (run .held) (now masks) (now levels) × (length (now cases) ≡ length (now symbols)) × (length (now cases) ≤ 65536) × (run .pending ≡ 0) × (run .steps < 18446744073709551615) ⌝ }
+    ensures { λ r. ⌜ Opened (ltb (run .level .0) (length (now (cases .entry)))) run (finalPending (head .initial) (head .finals ∷ []) (blockersFrom (unstampedRoom (now (masks .entry)) (now (levels .entry))) (run .held) 0) (run .level .0 + 1)) r (now (cases .entry)) (now (symbols .entry)) (now (cases .exit)) (now (symbols .exit)) ⌝ }
 {
     let level = run.level;
     if cases.len() <= level.0 as usize {
@@ -153,7 +154,7 @@ fn unpend(
     hinted: u64,
 ) -> Run
     requires { ⌜ Holds held (now masks) (now levels) × HoldsWord (run .pending) (now cases) (now symbols) × (1 ≤ run .pending) × Countable run hinted ⌝ }
-    ensures { λ r. ⌜ Unpends run held hinted (pendingAfter (head .initial) (head .finals ∷ []) (blockersFrom (now (masks .entry)) (now (levels .entry)) held 0) (run .level .0) (pendingFirst (now (cases .entry)) (now (symbols .entry)) (run .pending - 1))) r (now (cases .entry)) (now (symbols .entry)) (now (cases .exit)) (now (symbols .exit)) ⌝ }
+    ensures { λ r. ⌜ Unpends run held hinted (pendingAfter (head .initial) (head .finals ∷ []) (blockersFrom (unstampedRoom (now (masks .entry)) (now (levels .entry))) held 0) (run .level .0) (pendingFirst (now (cases .entry)) (now (symbols .entry)) (run .pending - 1))) r (now (cases .entry)) (now (symbols .entry)) (now (cases .exit)) (now (symbols .exit)) ⌝ }
 {
     let rest = run.pending - 1;
     pending::pop(cases, symbols, run.pending);
@@ -176,19 +177,28 @@ fn enter(
     head: Head,
     masks: &mut [u64],
     levels: &mut [u32],
+    entered: &mut [u64],
     cases: &mut [u64],
     symbols: &mut [u8],
     run: Run,
     below: Level,
     choice: Choice,
 ) -> Run
-    requires { ⌜ Ready (stage (now masks) (now levels) (now cases) (now symbols) run) × (1 ≤ run .pending) × (below .0 < 65536) × Countable run (choice .hinted) ⌝ }
-    ensures { λ r. ⌜ stage (now (masks .exit)) (now (levels .exit)) (now (cases .exit)) (now (symbols .exit)) r
+    requires { ⌜ Ready (stage (roomOf (now masks) (now levels) (now entered)) (now cases) (now symbols) run) × (1 ≤ run .pending) × (below .0 < 65536) × Countable run (choice .hinted) ⌝ }
+    ensures { λ r. ⌜ stage (roomOf (now (masks .exit)) (now (levels .exit)) (now (entered .exit))) (now (cases .exit)) (now (symbols .exit)) r
         ≡ madeBy (λ c. blockStep (head .initial) (head .finals ∷ []) c (pendingFirst (now (cases .entry)) (now (symbols .entry)) (run .pending - 1)) (below .0) (choiceOf choice))
-        (stage (now (masks .entry)) (now (levels .entry)) (now (cases .entry)) (now (symbols .entry)) run) ⌝ }
+        (stage (roomOf (now (masks .entry)) (now (levels .entry)) (now (entered .entry))) (now (cases .entry)) (now (symbols .entry)) run) ⌝ }
 {
-    let entered = blockers::enter(masks, levels, run.held, choice.mask, below.above());
-    let Entered::Held(held) = entered else {
+    let answer = blockers::enter(
+        masks,
+        levels,
+        entered,
+        run.held,
+        choice.mask,
+        below.above(),
+        run.steps + 1,
+    );
+    let Entered::Held(held) = answer else {
         return stop(cases, symbols, run, 3);
     };
     unpend(
@@ -209,6 +219,7 @@ fn block(
     head: Head,
     masks: &mut [u64],
     levels: &mut [u32],
+    entered: &mut [u64],
     cases: &mut [u64],
     symbols: &mut [u8],
     hints: &[u64],
@@ -216,10 +227,10 @@ fn block(
     below: Level,
     x: u64,
 ) -> Run
-    requires { ⌜ ReadAs (now image) head × Ready (stage (now masks) (now levels) (now cases) (now symbols) run) × (1 ≤ run .pending) × (below .0 < 65536) × (run .steps < 18446744073709551615) ⌝ }
-    ensures { λ r. ⌜ stage (now (masks .exit)) (now (levels .exit)) (now (cases .exit)) (now (symbols .exit)) r
+    requires { ⌜ ReadAs (now image) head × Ready (stage (roomOf (now masks) (now levels) (now entered)) (now cases) (now symbols) run) × (1 ≤ run .pending) × (below .0 < 65536) × (run .steps < 18446744073709551615) ⌝ }
+    ensures { λ r. ⌜ stage (roomOf (now (masks .exit)) (now (levels .exit)) (now (entered .exit))) (now (cases .exit)) (now (symbols .exit)) r
         ≡ madeBy (blockOf (now (image .entry)) (now (hints .entry)) (pendingFirst (now (cases .entry)) (now (symbols .entry)) (run .pending - 1)) (below .0) x)
-        (stage (now (masks .entry)) (now (levels .entry)) (now (cases .entry)) (now (symbols .entry)) run) ⌝ }
+        (stage (roomOf (now (masks .entry)) (now (levels .entry)) (now (entered .entry))) (now (cases .entry)) (now (symbols .entry)) run) ⌝ }
 {
     let held = run.held;
     let choice = choices::choose_set(
@@ -232,7 +243,17 @@ fn block(
         hints,
         run.blocks,
     );
-    enter(head, masks, levels, cases, symbols, run, below, choice)
+    enter(
+        head,
+        masks,
+        levels,
+        entered,
+        cases,
+        symbols,
+        run,
+        below,
+        choice,
+    )
 }
 
 // Extend the pending case of the lowest level by the first symbol that qualifies; block it if none does.
@@ -241,15 +262,16 @@ fn work(
     head: Head,
     masks: &mut [u64],
     levels: &mut [u32],
+    entered: &mut [u64],
     cases: &mut [u64],
     symbols: &mut [u8],
     hints: &[u64],
     run: Run,
 ) -> Run
-    requires { ⌜ ReadAs (now image) head × Ready (stage (now masks) (now levels) (now cases) (now symbols) run) × (1 ≤ run .pending) × (run .steps < 18446744073709551615) ⌝ }
-    ensures { λ r. ⌜ stage (now (masks .exit)) (now (levels .exit)) (now (cases .exit)) (now (symbols .exit)) r
+    requires { ⌜ ReadAs (now image) head × Ready (stage (roomOf (now masks) (now levels) (now entered)) (now cases) (now symbols) run) × (1 ≤ run .pending) × (run .steps < 18446744073709551615) ⌝ }
+    ensures { λ r. ⌜ stage (roomOf (now (masks .exit)) (now (levels .exit)) (now (entered .exit))) (now (cases .exit)) (now (symbols .exit)) r
         ≡ madeBy (machineStep (systemOf (now (image .entry))) (givenOf (now (image .entry)) (hintsOf (now (hints .entry)))))
-        (stage (now (masks .entry)) (now (levels .entry)) (now (cases .entry)) (now (symbols .entry)) run) ⌝ }
+        (stage (roomOf (now (masks .entry)) (now (levels .entry)) (now (entered .entry))) (now (cases .entry)) (now (symbols .entry)) run) ⌝ }
 {
     let x = cases[run.pending - 1];
     let below = Level(run.level.0 - run.pending as u32);
@@ -261,6 +283,7 @@ fn work(
             head,
             masks,
             levels,
+            entered,
             cases,
             symbols,
             hints,
@@ -280,12 +303,19 @@ fn working_unless(empty: bool) -> u8
 }
 
 // Close: blockers rise, and where a level then holds none the run ends with the frame. Nothing is pending.
-fn close_level(image: &[u8], head: Head, masks: &mut [u64], levels: &mut [u32], run: Run) -> Run
-    requires { ⌜ ReadAs (now image) head × Holds (run .held) (now masks) (now levels) × (run .level .0 < 4294967295) × (run .steps < 18446744073709551615) ⌝ }
-    ensures { λ r. ⌜ ClosesLevel (systemOf (now (image .entry))) run r (now (masks .entry)) (now (levels .entry)) (now (masks .exit)) (now (levels .exit)) ⌝ }
+fn close_level(
+    image: &[u8],
+    head: Head,
+    masks: &mut [u64],
+    levels: &mut [u32],
+    entered: &mut [u64],
+    run: Run,
+) -> Run
+    requires { ⌜ ReadAs (now image) head × HoldsRoom (run .held) (roomOf (now masks) (now levels) (now entered)) × (run .level .0 < 4294967295) × (run .steps < 18446744073709551615) ⌝ }
+    ensures { λ r. ⌜ ClosesLevel (systemOf (now (image .entry))) run r (roomOf (now (masks .entry)) (now (levels .entry)) (now (entered .entry))) (roomOf (now (masks .exit)) (now (levels .exit)) (now (entered .exit))) ⌝ }
 {
     let level = run.level;
-    let closed = closing::close(image, head, masks, levels, run.held, level);
+    let closed = closing::close(image, head, masks, levels, entered, run.held, level);
     let mut after = run.counted(working_unless(closed.empty), 0);
     after.opened = false;
     after.held = closed.held;
@@ -299,24 +329,35 @@ pub(crate) fn step(
     head: Head,
     masks: &mut [u64],
     levels: &mut [u32],
+    entered: &mut [u64],
     cases: &mut [u64],
     symbols: &mut [u8],
     hints: &[u64],
     run: Run,
     allowance: u64,
 ) -> Run
-    requires { ⌜ ReadAs (now image) head × Ready (stage (now masks) (now levels) (now cases) (now symbols) run) ⌝ }
-    ensures { λ r. ⌜ stage (now (masks .exit)) (now (levels .exit)) (now (cases .exit)) (now (symbols .exit)) r
-        ≡ stepOf (now (image .entry)) (termsOf (now (hints .entry)) allowance) (stage (now (masks .entry)) (now (levels .entry)) (now (cases .entry)) (now (symbols .entry)) run) ⌝ }
+    requires { ⌜ ReadAs (now image) head × Ready (stage (roomOf (now masks) (now levels) (now entered)) (now cases) (now symbols) run) ⌝ }
+    ensures { λ r. ⌜ stage (roomOf (now (masks .exit)) (now (levels .exit)) (now (entered .exit))) (now (cases .exit)) (now (symbols .exit)) r
+        ≡ stepOf (now (image .entry)) (termsOf (now (hints .entry)) allowance) (stage (roomOf (now (masks .entry)) (now (levels .entry)) (now (entered .entry))) (now (cases .entry)) (now (symbols .entry)) run) ⌝ }
 {
     if allowance <= run.steps {
         return stop(cases, symbols, run, 2);
     }
     if 0 < run.pending {
-        return work(image, head, masks, levels, cases, symbols, hints, run);
+        return work(
+            image,
+            head,
+            masks,
+            levels,
+            entered,
+            cases,
+            symbols,
+            hints,
+            run,
+        );
     }
     if run.opened {
-        return close_level(image, head, masks, levels, run);
+        return close_level(image, head, masks, levels, entered, run);
     }
     open_level(head, masks, levels, cases, symbols, run)
 }

@@ -17,9 +17,8 @@ use Rattle.automata.specs.Image.{symbolsOf, initialOf, rowsOf}
 use Rattle.automata.specs.Automaton.{backward}
 use Rattle.automata.specs.declared.image.Head.{Head}
 use Rattle.machine.specs.Machine.{Blocker, covers, settled, qualifies}
-use Rattle.machine.specs.Lent.{blockersFrom, blockersIn}
+use Rattle.machine.specs.Lent.{blockerAt, blockersFrom, unstampedRoom, blockersIn}
 use Rattle.machine.specs.Runs.{systemOf}
-use Rattle.blockers.specs.Room.{blockerAt}
 use Rattle.blockers.proofs.Walks.{CoverSearched, cover-starts, cover-here, cover-goes, cover-nowhere}
 use Rattle.choices.specs.Found.{ReadAs, foundOf}
 use Rattle.choices.specs.declared.Found.{Found}
@@ -54,15 +53,15 @@ pub walk-starts : {masks levels : List ℕ} {below P s : ℕ} → BlockersTried 
 walk-starts = record { same = refl; searched = cover-starts }
 
 pub walk-goes : {masks levels : List ℕ} {below P symbol s i : ℕ} → BlockersTried masks levels below P symbol s i
-    → (b : Bool) → i < length masks → b ≡ covers below P (blockerAt masks levels i) → b ≡ false → BlockersTried masks levels below P symbol s (i + 1)
+    → (b : Bool) → i < length masks → b ≡ covers below P (blockerAt (unstampedRoom masks levels) i) → b ≡ false → BlockersTried masks levels below P symbol s (i + 1)
 walk-goes walk b l e f = record { same = walk .same; searched = cover-goes (walk .searched) b l e f }
 
 -- the walk over tables of one length is over all their blockers
 walked-all : (test : Blocker → Bool) (masks levels : List ℕ) → length masks ≡ length levels
-    → any test (blockersFrom masks levels (length masks - 0) 0) ≡ any test (blockersIn masks levels)
+    → any test (blockersFrom (unstampedRoom masks levels) (length masks - 0) 0) ≡ any test (blockersIn masks levels)
 walked-all test masks levels e =
     let all : length masks - 0 ≡ min (length masks) (length levels) = omega arith in
-    ap (λ (count : ℕ). any test (blockersFrom masks levels count 0)) all
+    ap (λ (count : ℕ). any test (blockersFrom (unstampedRoom masks levels) count 0)) all
 
 module _ {image masks levels : List ℕ} {below X symbols s : ℕ} (tried : SymbolsTried image masks levels below X symbols s) where
   pub symbol-known : s < symbols → s < symbolsOf image
@@ -106,13 +105,13 @@ module _ {image masks levels : List ℕ} {below X symbols s : ℕ} (tried : Symb
           find-bottom t = finds (sym (ap not t) ∙ by-initial)
 
         module _ {now i : ℕ} (walk : BlockersTried masks levels below P s now i) (paired : length masks ≡ length levels) (high : bottom ≡ false) where
-          by-blockers : (b : Bool) → b ≡ any (covers below P) (blockersFrom masks levels (length masks - 0) 0)
+          by-blockers : (b : Bool) → b ≡ any (covers below P) (blockersFrom (unstampedRoom masks levels) (length masks - 0) 0)
               → b ≡ settled (initialOf image) (blockersIn masks levels) below X P
           by-blockers b e =
               let all : b ≡ any (covers below P) (blockersIn masks levels) = e ∙ walked-all (covers below P) masks levels paired in
               settled-blocked _ _ _ _ _ inside test b (blocked-above _ _ _ _ bottom at-bottom b all high) outside
 
-          pub try-covered : (b : Bool) → i < length masks → b ≡ covers below P (blockerAt masks levels i) → b ≡ true
+          pub try-covered : (b : Bool) → i < length masks → b ≡ covers below P (blockerAt (unstampedRoom masks levels) i) → b ≡ true
               → SymbolsTried image masks levels below X symbols (now + 1)
           try-covered b h e t = rw (walk .same) (goes (by-blockers true (cover-here (walk .searched) b h e t)))
 

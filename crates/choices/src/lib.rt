@@ -12,9 +12,8 @@ ghost use Rattle.lists.specs.Lists.{firstFrom};
 ghost use Rattle.automata.specs.Image.{symbolsOf};
 ghost use Rattle.machine.specs.Machine.{blocked as isBlocked, settled as isSettled, qualifies, passes as passesTest, withState, byStates};
 ghost use Rattle.machine.specs.Machine.{chosenFrom, hintAt, rises as risesTest};
-ghost use Rattle.machine.specs.Lent.{blockersIn};
+ghost use Rattle.machine.specs.Lent.{blockerAt, unstampedRoom, blockersIn};
 ghost use Rattle.machine.specs.Runs.{systemOf};
-ghost use Rattle.blockers.specs.Room.{blockerAt};
 ghost use Rattle.choices.specs.Found.{ReadAs, foundOf, choiceOf};
 
 // The first symbol whose backward set of x is neither inside x nor blocked one level below, with that set; or that there is none.
@@ -200,7 +199,7 @@ pub fn rises(
 ) -> bool
     requires { ⌜ ReadAs (now image) head × (length (now masks) ≡ length (now levels)) × (place < length (now masks)) ⌝ }
     ensures { λ r. ⌜ r ≡ risesTest (systemOf (now (image .entry))) (blockersIn (now (masks .entry)) (now (levels .entry))) (level .0)
-        (blockerAt (now (masks .entry)) (now (levels .entry)) place) ⌝ }
+        (blockerAt (unstampedRoom (now (masks .entry)) (now (levels .entry))) place) ⌝ }
 {
     if !Level(levels[place]).equals(level) {
         return false;

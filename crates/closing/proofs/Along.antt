@@ -12,11 +12,11 @@ use Rattle.lists.proofs.Tests.{holds, and-left}
 use Rattle.lists.proofs.Lists.{keep-length}
 use Rattle.machine.specs.System.{System}
 use Rattle.machine.specs.Machine.{Blocker, leaves, staying, rises, risen, riseAlong}
-use Rattle.machine.specs.Lent.{blockersFrom, blockersIn}
-use Rattle.blockers.specs.Room.{Holds, tableOf, blockerAt, RisesAt}
+use Rattle.machine.specs.Lent.{BlockerRoom, roomOf, blockerAt, blockersFrom, unstampedRoom, blockersIn}
+use Rattle.blockers.specs.Room.{HoldsRoom, tableOf, RisesAt}
 use Rattle.blockers.proofs.Walks.{next-blocker, no-blocker}
 use Rattle.blockers.proofs.Changes.{risen-passed, risen-ahead}
-use Rattle.blockers.proofs.Parts.{part-table, part-blocker}
+use Rattle.blockers.proofs.Parts.{part-rises}
 use Rattle.closing.specs.Close.{risenAt, Becomes}
 use Rattle.closing.proofs.Composing.{becomes-same, Changed, unchanged, changed-further}
 
@@ -92,105 +92,105 @@ module _ (S : System) (j : ℕ) (passed : List Blocker) where
     along-stays e = turn-stays S (length ahead) j passed blocker ahead e
 
 -- blockers and those right behind them
-blockers-split : (masks levels : List ℕ) (first second at : ℕ)
-    → blockersFrom masks levels first at ++ blockersFrom masks levels second (at + first) ≡ blockersFrom masks levels (first + second) at
+blockers-split : (room : BlockerRoom) (first second at : ℕ)
+    → blockersFrom room first at ++ blockersFrom room second (at + first) ≡ blockersFrom room (first + second) at
 unfolding blockersFrom
-blockers-split masks levels zero second at =
+blockers-split room zero second at =
     let e : second ≡ zero + second = omega arith in
     let s : at + zero ≡ at = omega arith in
-    ap (λ (k : ℕ). blockersFrom masks levels second k) s ∙ ap (λ (k : ℕ). blockersFrom masks levels k at) e
-blockers-split masks levels (suc first) second at =
+    ap (λ (k : ℕ). blockersFrom room second k) s ∙ ap (λ (k : ℕ). blockersFrom room k at) e
+blockers-split room (suc first) second at =
     let e : at + suc first ≡ suc at + first = omega arith in
     let s : suc first + second ≡ suc (first + second) = omega arith in
-    rw (e, s) (ap (λ (rest : List Blocker). blockerAt masks levels at ∷ rest) (blockers-split masks levels first second (suc at)))
+    rw (e, s) (ap (λ (rest : List Blocker). blockerAt room at ∷ rest) (blockers-split room first second (suc at)))
 
 -- the table as it stands, apart at a place
-table-apart : (masks levels : List ℕ) (held place : ℕ) → place < held
-    → blockersFrom masks levels place 0 ++ blockerAt masks levels place ∷ blockersFrom masks levels (held - (place + 1)) (place + 1)
-    ≡ tableOf held masks levels
-table-apart masks levels held place l =
+table-apart : (room : BlockerRoom) (held place : ℕ) → place < held
+    → blockersFrom room place 0 ++ blockerAt room place ∷ blockersFrom room (held - (place + 1)) (place + 1) ≡ tableOf held room
+table-apart room held place l =
     let e : place + (held - place) ≡ held = omega arith in
     let s : place ≡ 0 + place = omega arith in
-    ap (λ (rest : List Blocker). blockersFrom masks levels place 0 ++ rest) (sym (next-blocker masks levels held place l))
-    ∙ ap (λ (at : ℕ). blockersFrom masks levels place 0 ++ blockersFrom masks levels (held - place) at) s
-    ∙ blockers-split masks levels place (held - place) 0
-    ∙ ap (λ (count : ℕ). tableOf count masks levels) e
+    ap (λ (rest : List Blocker). blockersFrom room place 0 ++ rest) (sym (next-blocker room held place l))
+    ∙ ap (λ (at : ℕ). blockersFrom room place 0 ++ blockersFrom room (held - place) at) s
+    ∙ blockers-split room place (held - place) 0
+    ∙ ap (λ (count : ℕ). tableOf count room) e
 
-one-more : (masks levels : List ℕ) (place : ℕ)
-    → blockersFrom masks levels place 0 ++ blockerAt masks levels place ∷ [] ≡ blockersFrom masks levels (place + 1) 0
+one-more : (room : BlockerRoom) (place : ℕ) → blockersFrom room place 0 ++ blockerAt room place ∷ [] ≡ blockersFrom room (place + 1) 0
 unfolding blockersFrom
-one-more masks levels place =
+one-more room place =
     let s : place ≡ 0 + place = omega arith in
-    ap (λ (at : ℕ). blockersFrom masks levels place 0 ++ blockersFrom masks levels 1 at) s ∙ blockers-split masks levels place 1 0
+    ap (λ (at : ℕ). blockersFrom room place 0 ++ blockersFrom room 1 at) s ∙ blockers-split room place 1 0
 
 -- The walk at level j before a place: the table as it stands took the first one's place, and what the walk makes of it is what it makes of the first.
-pub record Walked (S : System) (first-masks first-levels : List ℕ) (held j count place : ℕ) (masks levels : List ℕ) : Type 0 where
+pub record Walked (S : System) (first : BlockerRoom) (held j count place : ℕ) (room : BlockerRoom) : Type 0 where
   pub within : place ≤ count
-  pub changed : Changed first-masks first-levels held count masks levels
-  pub left : along S j (blockersFrom masks levels place 0) (blockersFrom masks levels (count - place) place)
-      ≡ risenAt S j (tableOf held first-masks first-levels)
+  pub changed : Changed first held count room
+  pub left : along S j (blockersFrom room place 0) (blockersFrom room (count - place) place) ≡ risenAt S j (tableOf held first)
 
-pub walk-starts : {S : System} {masks levels : List ℕ} {held j : ℕ} → Holds held masks levels → Walked S masks levels held j held 0 masks levels
+pub walk-starts : {S : System} {room : BlockerRoom} {held j : ℕ} → HoldsRoom held room → Walked S room held j held 0 room
 unfolding along blockersFrom
-walk-starts {S} {masks} {levels} {held} {j} holds = record {
+walk-starts {S} {room} {held} {j} holds = record {
   within = omega arith;
   changed = unchanged holds;
-  left = ap (λ (count : ℕ). along S j [] (tableOf count masks levels)) (sub-zero held);
+  left = ap (λ (count : ℕ). along S j [] (tableOf count room)) (sub-zero held);
 }
 
-module _ {S : System} {first-masks first-levels : List ℕ} {held j count place : ℕ} {masks levels : List ℕ}
-    (walked : Walked S first-masks first-levels held j count place masks levels) where
-  pub walk-ends : count ≤ place
-      → Becomes held (risenAt S j (tableOf held first-masks first-levels))
-      first-masks first-levels count masks levels
+module _ {S : System} {first : BlockerRoom} {held j count place : ℕ} {room : BlockerRoom} (walked : Walked S first held j count place room) where
+  pub walk-ends : count ≤ place → Becomes held (risenAt S j (tableOf held first)) first count room
   walk-ends l =
       let all : place ≡ count = omega (arith, walked .within) in
       becomes-same (walked .changed .becomes)
-      (ap (λ (k : ℕ). tableOf k masks levels) (sym all)
-      ∙ sym (along-ends S j (blockersFrom masks levels place 0))
-      ∙ ap (λ (rest : List Blocker). along S j (blockersFrom masks levels place 0) rest) (sym (no-blocker masks levels count place l))
+      (ap (λ (k : ℕ). tableOf k room) (sym all)
+      ∙ sym (along-ends S j (blockersFrom room place 0))
+      ∙ ap (λ (rest : List Blocker). along S j (blockersFrom room place 0) rest) (sym (no-blocker room count place l))
       ∙ walked .left)
 
   module _ (l : place < count) where
     abbrev ahead : List Blocker
-    ahead = blockersFrom masks levels (count - (place + 1)) (place + 1)
+    ahead = blockersFrom room (count - (place + 1)) (place + 1)
 
-    next : along S j (blockersFrom masks levels place 0) (blockerAt masks levels place ∷ ahead)
-        ≡ risenAt S j (tableOf held first-masks first-levels)
-    next = ap (λ (rest : List Blocker). along S j (blockersFrom masks levels place 0) rest) (sym (next-blocker masks levels count place l)) ∙ walked .left
+    next : along S j (blockersFrom room place 0) (blockerAt room place ∷ ahead) ≡ risenAt S j (tableOf held first)
+    next = ap (λ (rest : List Blocker). along S j (blockersFrom room place 0) rest) (sym (next-blocker room count place l)) ∙ walked .left
 
-    -- whether the blocker rises, by the part in use; and so by the table that the walk has come to
+    -- whether the blocker rises, by masks and levels of the part in use; and so by the table that the walk has come to
     abbrev partRises : Bool
-    partRises = rises S (blockersIn (take count masks) (take count levels)) j (blockerAt (take count masks) (take count levels) place)
+    partRises = rises S (blockersIn (take count (room .masks)) (take count (room .levels))) j
+        (blockerAt (unstampedRoom (take count (room .masks)) (take count (room .levels))) place)
 
-    tested : {b : Bool} → b ≡ partRises
-        → rises S (blockersFrom masks levels place 0 ++ blockerAt masks levels place ∷ ahead) j (blockerAt masks levels place) ≡ b
+    tested : {b : Bool} → b ≡ partRises → rises S (blockersFrom room place 0 ++ blockerAt room place ∷ ahead) j (blockerAt room place) ≡ b
     tested test =
-        ap₂ (λ (table : List Blocker) (blocker : Blocker). rises S table j blocker)
-        (table-apart masks levels count place l ∙ sym (part-table (walked .changed .holds))) (sym (part-blocker (walked .changed .holds) l))
+        ap (λ (table : List Blocker). rises S table j (blockerAt room place)) (table-apart room count place l)
+        ∙ sym (part-rises (walked .changed .holds) S j l)
         ∙ sym test
 
-    pub rises-exactly : {top : ℕ} → j < top → {b : Bool} → b ≡ true → b ≡ partRises → getD levels place 0 < top
+    exactly : {b : Bool} → b ≡ true → b ≡ partRises → getD (room .levels) place 0 ≡ j
     unfolding rises
-    rises-exactly h t test = rw (eqb→eq (getD levels place 0) j (and-left _ _ (holds (tested test ∙ t)))) h
+    exactly t test = eqb→eq (getD (room .levels) place 0) j (and-left _ _ (holds (tested test ∙ t)))
 
-    pub walk-passes : {b : Bool} → b ≡ false → b ≡ partRises → Walked S first-masks first-levels held j count (place + 1) masks levels
+    pub walk-passes : {b : Bool} → b ≡ false → b ≡ partRises → Walked S first held j count (place + 1) room
     walk-passes f test = record {
       within = omega arith;
       changed = walked .changed;
       left =
-          ap (λ (passed : List Blocker). along S j passed ahead) (sym (one-more masks levels place))
-          ∙ sym (along-stays S j (blockersFrom masks levels place 0) (blockerAt masks levels place) ahead (tested test ∙ f))
+          ap (λ (passed : List Blocker). along S j passed ahead) (sym (one-more room place))
+          ∙ sym (along-stays S j (blockersFrom room place 0) (blockerAt room place) ahead (tested test ∙ f))
           ∙ next;
     }
 
-    pub walk-rises : {count′ place′ : ℕ} {masks′ levels′ : List ℕ} → RisesAt count place masks levels count′ place′ masks′ levels′
-        → {b : Bool} → b ≡ true → b ≡ partRises → Walked S first-masks first-levels held j count′ (place′ + 1) masks′ levels′
+    pub walk-rises : {count′ place′ : ℕ} {room′ : BlockerRoom} → RisesAt count place room count′ place′ room′
+        → {b : Bool} → b ≡ true → b ≡ partRises → Walked S first held j count′ (place′ + 1) room′
     walk-rises rise t test = record {
       within = omega (arith, rise .below);
       changed = changed-further (walked .changed) (record { count = rise .count; tables = rise .tables; few = rise .few });
       left =
           ap₂ (λ (passed rest : List Blocker). along S j passed rest) (risen-passed rise) (risen-ahead rise)
-          ∙ sym (along-rises S j (blockersFrom masks levels place 0) (blockerAt masks levels place) ahead (tested test ∙ t))
+          ∙ sym (along-rises S j (blockersFrom room place 0) (blockerAt room place) ahead (tested test ∙ t))
           ∙ next;
     }
+
+-- one that rises is of the walk's level
+pub rises-exactly : {S : System} {first : BlockerRoom} {held j count place : ℕ} {masks levels entered : List ℕ} {top : ℕ}
+    → Walked S first held j count place (roomOf masks levels entered) → place < count → j < top → {b : Bool} → b ≡ true
+    → b ≡ rises S (blockersIn (take count masks) (take count levels)) j (blockerAt (unstampedRoom (take count masks) (take count levels)) place)
+    → getD levels place 0 < top
+rises-exactly walked l h t test = rw (exactly walked l t test) h

@@ -14,7 +14,8 @@ use Rattle.lists.specs.Lists.{any, firstFrom}
 use Rattle.lists.proofs.Lists.{first-from-here, first-from-later, first-from-nowhere}
 use Rattle.machine.specs.System.{System}
 use Rattle.machine.specs.Machine.{Blocker, riseLevels, frame}
-use Rattle.blockers.specs.Room.{Holds, tableOf, Frames}
+use Rattle.machine.specs.Lent.{BlockerRoom}
+use Rattle.blockers.specs.Room.{HoldsRoom, tableOf, Frames}
 use Rattle.blockers.specs.declared.Level.{Level}
 use Rattle.blockers.proofs.Parts.{part-none-at}
 use Rattle.closing.specs.declared.Lowest.{Lowest}
@@ -41,46 +42,45 @@ module _ {top j : ℕ} (to : LevelsTo top j) {within : Bool} (t : within ≡ tru
   level-next e = record { most = omega (arith, at-most) }
 
 -- The rises before level j: the table as it stands took the first one's place, and what the levels from j on make of it is what all make of the first.
-pub record LevelsRisen (S : System) (first-masks first-levels : List ℕ) (held top count j : ℕ) (masks levels : List ℕ) : Type 0 where
+pub record LevelsRisen (S : System) (first : BlockerRoom) (held top count j : ℕ) (room : BlockerRoom) : Type 0 where
   pub to : LevelsTo top j
-  pub changed : Changed first-masks first-levels held count masks levels
-  pub left : riseLevels S ((top + 1) - j) j (tableOf count masks levels) ≡ risenBy S top (tableOf held first-masks first-levels)
+  pub changed : Changed first held count room
+  pub left : riseLevels S ((top + 1) - j) j (tableOf count room) ≡ risenBy S top (tableOf held first)
 
-pub levels-start : {S : System} {masks levels : List ℕ} {held top : ℕ} → Holds held masks levels
-    → LevelsRisen S masks levels held top held 1 masks levels
-levels-start {S} {masks} {levels} {held} {top} holds =
+pub levels-start : {S : System} {room : BlockerRoom} {held top : ℕ} → HoldsRoom held room → LevelsRisen S room held top held 1 room
+levels-start {S} {room} {held} {top} holds =
     let e : (top + 1) - 1 ≡ top = omega arith in
     record {
       to = record { most = omega arith };
       changed = unchanged holds;
-      left = ap (λ (count : ℕ). riseLevels S count 1 (tableOf held masks levels)) e;
+      left = ap (λ (count : ℕ). riseLevels S count 1 (tableOf held room)) e;
     }
 
-module _ {S : System} {first-masks first-levels : List ℕ} {held top count j : ℕ} {masks levels : List ℕ}
-    (risen : LevelsRisen S first-masks first-levels held top count j masks levels) {within : Bool} where
-  pub levels-go : {count′ : ℕ} {masks′ levels′ : List ℕ}
-      → Becomes count (risenAt S j (tableOf count masks levels)) masks levels count′ masks′ levels′
+module _ {S : System} {first : BlockerRoom} {held top count j : ℕ} {room : BlockerRoom}
+    (risen : LevelsRisen S first held top count j room) {within : Bool} where
+  pub levels-go : {count′ : ℕ} {room′ : BlockerRoom}
+      → Becomes count (risenAt S j (tableOf count room)) room count′ room′
       → within ≡ true → within ≡ leb j top → {next : ℕ} → next ≡ j + 1
-      → LevelsRisen S first-masks first-levels held top count′ next masks′ levels′
+      → LevelsRisen S first held top count′ next room′
   unfolding riseLevels
-  levels-go {count′} {masks′} {levels′} change t test {next} one =
+  levels-go {count′} {room′} change t test {next} one =
       let e : (top + 1) - j ≡ suc ((top + 1) - next) = omega (arith, at-most (risen .to) t test) in
       record {
         to = level-next (risen .to) t test one;
         changed = changed-further (risen .changed) change;
         left =
             ap₂ (λ (at : ℕ) (table : List Blocker). riseLevels S ((top + 1) - next) at table) (one ∙ add-one j) (becomes-table change)
-            ∙ ap (λ (turns : ℕ). riseLevels S turns j (tableOf count masks levels)) (sym e)
+            ∙ ap (λ (turns : ℕ). riseLevels S turns j (tableOf count room)) (sym e)
             ∙ risen .left;
       }
 
   pub levels-end : within ≡ false → within ≡ leb j top
-      → Becomes held (risenBy S top (tableOf held first-masks first-levels)) first-masks first-levels count masks levels
+      → Becomes held (risenBy S top (tableOf held first)) first count room
   unfolding riseLevels
   levels-end f test =
       let l : top < j = leb-false j top (sym test ∙ f) in
       let e : 0 ≡ (top + 1) - j = omega arith in
-      becomes-same (risen .changed .becomes) (ap (λ (turns : ℕ). riseLevels S turns j (tableOf count masks levels)) e ∙ risen .left)
+      becomes-same (risen .changed .becomes) (ap (λ (turns : ℕ). riseLevels S turns j (tableOf count room)) e ∙ risen .left)
 
 -- The search for the lowest level that passes a test, before a level: none was found, and the levels from that one on are left.
 pub record LevelsTried (test : ℕ → Bool) (top : ℕ) (level : Level) : Type 0 where
@@ -128,35 +128,35 @@ some-lowest (some i) j e =
     ap (λ (level : Level). some (level .0)) same
 
 -- the close, by whether a level holds no blocker after the rises
-module _ (S : System) (top : ℕ) {held count : ℕ} {masks levels masks′ levels′ : List ℕ} (holds : Holds held masks levels)
-    (risen : Becomes held (risenBy S top (tableOf held masks levels)) masks levels count masks′ levels′) (lowest : Lowest)
-    (found : lowest ≡ lowestOf (firstFrom (λ level. neg (any (λ other. eqb other level) (take count levels′))) top 1)) where
-  same-level : lowestOf (emptyLevel S top (tableOf held masks levels)) ≡ lowest
+module _ (S : System) (top : ℕ) {held count : ℕ} {room room′ : BlockerRoom} (holds : HoldsRoom held room)
+    (risen : Becomes held (risenBy S top (tableOf held room)) room count room′) (lowest : Lowest)
+    (found : lowest ≡ lowestOf (firstFrom (λ level. neg (any (λ other. eqb other level) (take count (room′ .levels)))) top 1)) where
+  same-level : lowestOf (emptyLevel S top (tableOf held room)) ≡ lowest
   unfolding lowestNone
   same-level =
-      let levels-hold : count ≤ length levels′ = becomes-holds risen holds .in-levels in
+      let levels-hold : count ≤ length (room′ .levels) = becomes-holds risen holds .read .in-levels in
       ap (λ (table : List Blocker). lowestOf (lowestNone table top)) (sym (becomes-table risen))
-      ∙ ap (λ (test : ℕ → Bool). lowestOf (firstFrom test top 1)) (fun-ext (λ level. part-none-at count masks′ levels′ level levels-hold))
+      ∙ ap (λ (test : ℕ → Bool). lowestOf (firstFrom test top 1)) (fun-ext (λ level. part-none-at count room′ level levels-hold))
       ∙ sym found
 
-  pub closes-full : lowest ≡ Nothing → Closes S top held masks levels (record { held = count; empty = false }) masks′ levels′
+  pub closes-full : lowest ≡ Nothing → Closes S top held room (record { held = count; empty = false }) room′
   unfolding keptBy isEmpty
   closes-full n =
-      let o : emptyLevel S top (tableOf held masks levels) ≡ none = none-lowest _ (same-level ∙ n) in
-      let all : Becomes held (closedBy S top (tableOf held masks levels)) masks levels count masks′ levels′ =
-      becomes-same risen (ap (λ (l : Option ℕ). keptBy (risenBy S top (tableOf held masks levels)) l) (sym o)) in
+      let o : emptyLevel S top (tableOf held room) ≡ none = none-lowest _ (same-level ∙ n) in
+      let all : Becomes held (closedBy S top (tableOf held room)) room count room′ =
+      becomes-same risen (ap (λ (l : Option ℕ). keptBy (risenBy S top (tableOf held room)) l) (sym o)) in
       record { count = all .count; tables = all .tables; few = all .few; answers = ap isEmpty (sym o) }
 
-  pub closes-empty : (j : ℕ) {count′ : ℕ} {masks″ levels″ : List ℕ} → lowest ≡ At (record { 0 = j })
-      → Frames count j masks′ levels′ count′ masks″ levels″
-      → Closes S top held masks levels (record { held = count′; empty = true }) masks″ levels″
+  pub closes-empty : (j : ℕ) {count′ : ℕ} {room″ : BlockerRoom} → lowest ≡ At (record { 0 = j })
+      → Frames count j room′ count′ room″
+      → Closes S top held room (record { held = count′; empty = true }) room″
   unfolding keptBy isEmpty
-  closes-empty j {count′} {masks″} {levels″} e frames =
-      let o : emptyLevel S top (tableOf held masks levels) ≡ some j = some-lowest _ j (same-level ∙ e) in
-      let change : Becomes count (frame j (tableOf count masks′ levels′)) masks′ levels′ count′ masks″ levels″ =
+  closes-empty j {count′} {room″} e frames =
+      let o : emptyLevel S top (tableOf held room) ≡ some j = some-lowest _ j (same-level ∙ e) in
+      let change : Becomes count (frame j (tableOf count room′)) room′ count′ room″ =
       record { count = frames .count; tables = frames .tables; few = frames .few } in
-      let all : Becomes held (closedBy S top (tableOf held masks levels)) masks levels count′ masks″ levels″ =
+      let all : Becomes held (closedBy S top (tableOf held room)) room count′ room″ =
       becomes-same (becomes-further risen change)
       (ap (λ (table : List Blocker). frame j table) (becomes-table risen)
-      ∙ ap (λ (l : Option ℕ). keptBy (risenBy S top (tableOf held masks levels)) l) (sym o)) in
+      ∙ ap (λ (l : Option ℕ). keptBy (risenBy S top (tableOf held room)) l) (sym o)) in
       record { count = all .count; tables = all .tables; few = all .few; answers = ap isEmpty (sym o) }

@@ -8,6 +8,7 @@ use lib.ListN.{length}
 use Rattle.lists.specs.Lists.{firstFrom}
 use Rattle.machine.specs.System.{System}
 use Rattle.machine.specs.Machine.{Blocker, riseAlong, riseLevels, noneAt, frame}
+use Rattle.machine.specs.Lent.{BlockerRoom}
 use Rattle.blockers.specs.Room.{tableOf, Placed}
 use Rattle.closing.specs.declared.Lowest.{Lowest}
 use Rattle.closing.specs.declared.Lowest.the-variants.{At, Nothing}
@@ -40,10 +41,10 @@ unfoldable pub isEmpty : Option ℕ → Bool
 isEmpty none = false
 isEmpty (some j) = true
 
--- What comes of tables in which `table` is to stand for the first `held` entries: as many blockers as `held′`, and no more than were held.
-pub record Becomes (held : ℕ) (table : List Blocker) (masks levels : List ℕ) (held′ : ℕ) (masks′ levels′ : List ℕ) : Type 0 where
+-- What comes of a room in which `table` is to stand for the first `held` entries: as many blockers as `held′`, and no more than were held.
+pub record Becomes (held : ℕ) (table : List Blocker) (room : BlockerRoom) (held′ : ℕ) (room′ : BlockerRoom) : Type 0 where
   pub count : held′ ≡ length table
-  pub tables : Placed held table masks levels masks′ levels′
+  pub tables : Placed held table room room′
   pub few : held′ ≤ held
 
 -- the lowest level from 1 to `top` that holds no blocker after the rises
@@ -54,10 +55,10 @@ emptyLevel S top table = lowestNone (risenBy S top table) top
 abbrev pub closedBy : System → ℕ → List Blocker → List Blocker
 closedBy S top table = keptBy (risenBy S top table) (emptyLevel S top table)
 
--- What comes of a close of level `top`: the blockers that it keeps stand in both tables, no more than were held, and the answer is empty where a level
+-- What comes of a close of level `top`: the blockers that it keeps stand in the room, no more than were held, and the answer is empty where a level
 -- holds none after the rises.
-pub record Closes (S : System) (top held : ℕ) (masks levels : List ℕ) (answer : Closed) (masks′ levels′ : List ℕ) : Type 0 where
-  pub count : answer .held ≡ length (closedBy S top (tableOf held masks levels))
-  pub tables : Placed held (closedBy S top (tableOf held masks levels)) masks levels masks′ levels′
+pub record Closes (S : System) (top held : ℕ) (room : BlockerRoom) (answer : Closed) (room′ : BlockerRoom) : Type 0 where
+  pub count : answer .held ≡ length (closedBy S top (tableOf held room))
+  pub tables : Placed held (closedBy S top (tableOf held room)) room room′
   pub few : answer .held ≤ held
-  pub answers : answer .empty ≡ isEmpty (emptyLevel S top (tableOf held masks levels))
+  pub answers : answer .empty ≡ isEmpty (emptyLevel S top (tableOf held room))

@@ -6,7 +6,8 @@ ghost use Prim.Native.Nat.{_<_};
 ghost use lib.Dec.{eqb};
 ghost use Rattle.lists.specs.Tests.{neg};
 ghost use Rattle.lists.specs.Lists.{any, firstFrom};
-ghost use Rattle.blockers.specs.Room.{Holds, tableOf};
+ghost use Rattle.machine.specs.Lent.{roomOf};
+ghost use Rattle.blockers.specs.Room.{HoldsRoom, tableOf};
 ghost use Rattle.machine.specs.Runs.{systemOf};
 ghost use Rattle.choices.specs.Found.{ReadAs};
 ghost use Rattle.closing.specs.Close.{risenAt, risenBy, lowestOf, Becomes, Closes};
@@ -30,18 +31,19 @@ fn rise_level(
     head: Head,
     masks: &mut [u64],
     levels: &mut [u32],
+    entered: &mut [u64],
     held: usize,
     level: Level,
 ) -> usize
-    requires { ⌜ ReadAs (now image) head × Holds held (now masks) (now levels) × (level .0 < 4294967295) ⌝ }
-    ensures { λ r. ⌜ Becomes held (risenAt (systemOf (now (image .entry))) (level .0) (tableOf held (now (masks .entry)) (now (levels .entry))))
-        (now (masks .entry)) (now (levels .entry)) r (now (masks .exit)) (now (levels .exit)) ⌝ }
+    requires { ⌜ ReadAs (now image) head × HoldsRoom held (roomOf (now masks) (now levels) (now entered)) × (level .0 < 4294967295) ⌝ }
+    ensures { λ r. ⌜ Becomes held (risenAt (systemOf (now (image .entry))) (level .0) (tableOf held (roomOf (now (masks .entry)) (now (levels .entry)) (now (entered .entry)))))
+        (roomOf (now (masks .entry)) (now (levels .entry)) (now (entered .entry))) r (roomOf (now (masks .exit)) (now (levels .exit)) (now (entered .exit))) ⌝ }
 {
     let mut count = held;
     let mut place: usize = 0;
     while place < count {
         if choices::rises(image, head, &masks[..count], &levels[..count], level, place) {
-            let kept = blockers::rise(masks, levels, count, place);
+            let kept = blockers::rise(masks, levels, entered, count, place);
             count = kept.held;
             place = kept.place + 1;
             continue;
@@ -57,17 +59,18 @@ fn rise_levels(
     head: Head,
     masks: &mut [u64],
     levels: &mut [u32],
+    entered: &mut [u64],
     held: usize,
     top: Level,
 ) -> usize
-    requires { ⌜ ReadAs (now image) head × Holds held (now masks) (now levels) × (top .0 < 4294967295) ⌝ }
-    ensures { λ r. ⌜ Becomes held (risenBy (systemOf (now (image .entry))) (top .0) (tableOf held (now (masks .entry)) (now (levels .entry))))
-        (now (masks .entry)) (now (levels .entry)) r (now (masks .exit)) (now (levels .exit)) ⌝ }
+    requires { ⌜ ReadAs (now image) head × HoldsRoom held (roomOf (now masks) (now levels) (now entered)) × (top .0 < 4294967295) ⌝ }
+    ensures { λ r. ⌜ Becomes held (risenBy (systemOf (now (image .entry))) (top .0) (tableOf held (roomOf (now (masks .entry)) (now (levels .entry)) (now (entered .entry)))))
+        (roomOf (now (masks .entry)) (now (levels .entry)) (now (entered .entry))) r (roomOf (now (masks .exit)) (now (levels .exit)) (now (entered .exit))) ⌝ }
 {
     let mut count = held;
     let mut level = Level(1);
     while level.is_at_most(top) {
-        count = rise_level(image, head, masks, levels, count, level);
+        count = rise_level(image, head, masks, levels, entered, count, level);
         level = level.above();
     }
     count
@@ -94,21 +97,22 @@ pub fn close(
     head: Head,
     masks: &mut [u64],
     levels: &mut [u32],
+    entered: &mut [u64],
     held: usize,
     top: Level,
 ) -> Closed
-    requires { ⌜ ReadAs (now image) head × Holds held (now masks) (now levels) × (top .0 < 4294967295) ⌝ }
+    requires { ⌜ ReadAs (now image) head × HoldsRoom held (roomOf (now masks) (now levels) (now entered)) × (top .0 < 4294967295) ⌝ }
     ensures { λ r. ⌜ Closes (systemOf (now (image .entry))) (top .0) held
-        (now (masks .entry)) (now (levels .entry)) r (now (masks .exit)) (now (levels .exit)) ⌝ }
+        (roomOf (now (masks .entry)) (now (levels .entry)) (now (entered .entry))) r (roomOf (now (masks .exit)) (now (levels .exit)) (now (entered .exit))) ⌝ }
 {
-    let count = rise_levels(image, head, masks, levels, held, top);
+    let count = rise_levels(image, head, masks, levels, entered, held, top);
     let Lowest::At(level) = lowest_none(&levels[..count], top) else {
         return Closed {
             held: count,
             empty: false,
         };
     };
-    let left = blockers::frame(masks, levels, count, level);
+    let left = blockers::frame(masks, levels, entered, count, level);
     Closed {
         held: left,
         empty: true,

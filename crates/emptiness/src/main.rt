@@ -86,6 +86,7 @@ fn main() {
     };
     let mut masks = [0u64; 256];
     let mut levels = [0u32; 256];
+    let mut entered = [0u64; 256];
     let mut cases = [0u64; 256];
     let mut symbols = [0u8; 256];
     let hints = [0u64; 0];
@@ -93,6 +94,7 @@ fn main() {
         &bytes[..size],
         &mut masks,
         &mut levels,
+        &mut entered,
         &mut cases,
         &mut symbols,
         &hints,

@@ -2,6 +2,7 @@
 use Prim.Native.Nat.{ℕ}
 use mathlib.Core.Path.{_≡_}
 use mathlib.Core.List.{List, [], _∷_}
+use Rattle.machine.specs.Lent.{BlockerRoom}
 use Rattle.machine.specs.Runs.{Result}
 use Rattle.checker.specs.Stage.{lentOf}
 
@@ -10,7 +11,7 @@ unfoldable pub countsOf : Result → List ℕ
 countsOf result = result .steps ∷ result .level ∷ result .blockers ∷ result .accepted ∷ []
 
 -- what a run gave back is its result: the number, the four counts, and what each table holds
-pub record Ran (number : ℕ) (counts masks levels cases symbols : List ℕ) (result : Result) : Type 0 where
+pub record Ran (number : ℕ) (counts : List ℕ) (room : BlockerRoom) (cases symbols : List ℕ) (result : Result) : Type 0 where
   pub numbered : number ≡ result .number
   pub counted : counts ≡ countsOf result
-  pub tables : lentOf masks levels cases symbols ≡ result .tables
+  pub tables : lentOf room cases symbols ≡ result .tables

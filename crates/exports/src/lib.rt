@@ -3,6 +3,7 @@ use automata::image::Image;
 ghost use mathlib.Core.Path.{_≡_};
 ghost use Rattle.automata.specs.Answers.{readImage, imageNumber, headAfter};
 ghost use Rattle.automata.specs.WordTest.{wordTest};
+ghost use Rattle.machine.specs.Lent.{roomOf};
 ghost use Rattle.machine.specs.Runs.{runOf};
 ghost use Rattle.checker.specs.Stage.{lentOf, termsOf};
 ghost use Rattle.exports.specs.Interface.{Ran};
@@ -42,16 +43,26 @@ pub extern "C" fn afa_run(
     image: &[u8],
     masks: &mut [u64],
     levels: &mut [u32],
+    entered: &mut [u64],
     cases: &mut [u64],
     symbols: &mut [u8],
     hints: &[u64],
     allowance: u64,
     counts: &mut [u64; 4],
 ) -> u64
-    ensures { λ r. ⌜ Ran r (now (counts .exit)) (now (masks .exit)) (now (levels .exit)) (now (cases .exit)) (now (symbols .exit))
-        (runOf (now (image .entry)) (lentOf (now (masks .entry)) (now (levels .entry)) (now (cases .entry)) (now (symbols .entry))) (termsOf (now (hints .entry)) allowance)) ⌝ }
+    ensures { λ r. ⌜ Ran r (now (counts .exit)) (roomOf (now (masks .exit)) (now (levels .exit)) (now (entered .exit))) (now (cases .exit)) (now (symbols .exit))
+        (runOf (now (image .entry)) (lentOf (roomOf (now (masks .entry)) (now (levels .entry)) (now (entered .entry))) (now (cases .entry)) (now (symbols .entry))) (termsOf (now (hints .entry)) allowance)) ⌝ }
 {
-    let made = checker::run::run(image, masks, levels, cases, symbols, hints, allowance);
+    let made = checker::run::run(
+        image,
+        masks,
+        levels,
+        entered,
+        cases,
+        symbols,
+        hints,
+        allowance,
+    );
     *counts = [
         made.steps,
         made.level.0 as u64,

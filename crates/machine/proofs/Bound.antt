@@ -59,16 +59,16 @@ after-length S table N [] = omega arith
 after-length S table N (p ∷ rest) = omega arith
 
 -- a block blocks a pair that was not blocked
-block-more : {S : System} {table : List Blocker} {N : ℕ} {p : Pending} {rest : List Pending} (inv : Invariant S table N (p ∷ rest)) {mask : ℕ}
+block-more : {S : System} {table : List Blocker} {N : ℕ} {p : Pending} {rest : List Pending} (inv : Invariant S table N (p ∷ rest)) {mask : ℕ} (entered : ℕ)
     → Passes S table (N - suc (length rest)) (p .case) mask → N ≤ 2 ^ S .states
-    → blockedPairs S table < blockedPairs S (placed table (entering N rest mask) [])
-block-more {S} {table} {N} {p} {rest} inv passing l =
+    → blockedPairs S table < blockedPairs S (placed table (entering N rest mask entered) [])
+block-more {S} {table} {N} {p} {rest} inv entered passing l =
     let own = chain-lowest (inv .chain) in
-    pairs-more S (block-grown inv passing .grows) (N - suc (length rest)) (p .case)
+    pairs-more S (block-grown inv entered passing .grows) (N - suc (length rest)) (p .case)
     (omega (arith, own .high))
     (within-below (S .states) (p .case) (own .inside))
     (λ b. own .free (suc (N - suc (length rest))) (omega (arith, own .high)) (blocked-covered b))
-    (byBlocker (block-covers inv passing))
+    (byBlocker (block-covers inv entered passing))
 
 -- how far a run has come: its level has room, and its steps are fewer than the measure
 pub record Bounded (S : System) (c : Configuration) : Type 0 where
@@ -85,8 +85,8 @@ module _ {S : System} (lawful : Lawful S) where
   bounded-goes sound (extending s k t u) extended h e l m = omega (arith, ap shut e)
   bounded-goes {given} sound {c = c} (blocking {p = p} {rest = rest} f) (roomToBlock k) h e l m =
       let passing = chosen-passes sound (unqualified-passes h f) (chosen-is S given c (under c rest) (p .case)) in
-      let Y : Blocker = entering (c .level) rest (chosen S given c (under c rest) (p .case) .mask) in
-      omega (arith, ap shut e, block-more h passing (omega arith), after-length S (placed (c .table) Y []) (c .level) rest)
+      let Y : Blocker = entering (c .level) rest (chosen S given c (under c rest) (p .case) .mask) (suc (c .steps)) in
+      omega (arith, ap shut e, block-more h (suc (c .steps)) passing (omega arith), after-length S (placed (c .table) Y []) (c .level) rest)
   bounded-goes sound {c = c} (closing q) closed h e l m =
       let grown = levels-grown (c .level) 1 (omega arith) (h .kept) in
       omega (arith, levels-held (closedTable S c) (c .level) q, few-blockers lawful (grown .kept), pairs-monotone S (grown .grows))

@@ -23,6 +23,7 @@ use Rattle.machine.proofs.Steps.{chain-keeps, ended-stays, chain-ended-
 use Rattle.machine.proofs.Invariant.{FinalsClear, beginning-holds}
 use Rattle.machine.proofs.Verdicts.{Holds, RightAnswer, clear-finals, start-right, advanced-right}
 use Rattle.machine.proofs.Standing.{Counted, advanced-counted, beginning-counted}
+use Rattle.machine.proofs.Entering.{Stamped, advanced-stamped, beginning-stamped}
 use Rattle.machine.proofs.Bound.{Bounded, advanced-bounded, advanced-decided, beginning-bounded}
 
 -- what holds of a run that works
@@ -30,12 +31,14 @@ pub record Working (S : System) (rooms : Rooms) (c : Configuration) : Type 0 whe
   pub clear : FinalsClear S
   pub holds : Holds S c
   pub counted : Counted rooms c
+  pub stamped : Stamped c
   pub bounded : Bounded S c
 
 -- what holds of a run that has ended
 pub record Done (S : System) (rooms : Rooms) (outcome : Outcome) : Type 0 where
   pub right : RightAnswer S outcome
   pub counted : Counted rooms (comesTo (ends outcome))
+  pub stamped : Stamped (comesTo (ends outcome))
 
 abbrev pub Sure : System → Rooms → Next → Type 0
 Sure S rooms (goesOn c) = Working S rooms c
@@ -181,11 +184,12 @@ module _ (S : System) (lawful : Lawful S) (rooms : Rooms) where
   begin-sure = at (begin-begun S)
     where
       at : {n : Next} → Begun S n → Sure S rooms n
-      at (answered e) = record { right = start-right S e; counted = beginning-counted rooms }
+      at (answered e) = record { right = start-right S e; counted = beginning-counted rooms; stamped = beginning-stamped }
       at (started e) = let clear = clear-finals S e in record {
         clear = clear;
         holds = beginning-holds lawful clear;
         counted = beginning-counted rooms;
+        stamped = beginning-stamped;
         bounded = beginning-bounded S;
       }
 
@@ -199,9 +203,14 @@ module _ (S : System) (lawful : Lawful S) (rooms : Rooms) where
         clear = w .clear;
         holds = advanced-right S lawful (w .clear) sound (w .holds) a;
         counted = advanced-counted a (w .counted);
+        stamped = advanced-stamped a (w .stamped);
         bounded = advanced-bounded lawful sound (w .holds) (w .bounded) a;
       }
-      at (ends outcome) a = record { right = advanced-right S lawful (w .clear) sound (w .holds) a; counted = advanced-counted a (w .counted) }
+      at (ends outcome) a = record {
+        right = advanced-right S lawful (w .clear) sound (w .holds) a;
+        counted = advanced-counted a (w .counted);
+        stamped = advanced-stamped a (w .stamped);
+      }
   call-sure given (ends outcome) sound d = d
 
   -- after a chain of calls

@@ -159,13 +159,13 @@ after-done table N [] e = finals-done table N e
 after-done table N (p ∷ rest) e = absurd (cons≢nil e)
 
 -- the blocker that enters for the case before `rest`, at that case's level
-abbrev pub entering : ℕ → List Pending → ℕ → Blocker
-entering N rest mask = record { mask = mask; level = suc (N - suc (length rest)) }
+abbrev pub entering : ℕ → List Pending → ℕ → ℕ → Blocker
+entering N rest mask entered = record { mask = mask; level = suc (N - suc (length rest)); entered = entered }
 
 module _ {S : System} {table : List Blocker} {N : ℕ} {p : Pending} {rest : List Pending} (inv : Invariant S table N (p ∷ rest))
-    {mask : ℕ} (passing : Passes S table (N - suc (length rest)) (p .case) mask) where
+    {mask : ℕ} (entered : ℕ) (passing : Passes S table (N - suc (length rest)) (p .case) mask) where
   -- a set that passes may enter: nothing that contains it is of the pending case's level, for that case is not blocked there
-  block-enters : Enters S (suc N) table table (entering N rest mask) []
+  block-enters : Enters S (suc N) table table (entering N rest mask entered) []
   block-enters = record {
     rest = λ b m. rw append-nil at m;
     others = λ b m. inl (in-left [] m);
@@ -194,26 +194,26 @@ module _ {S : System} {table : List Blocker} {N : ℕ} {p : Pending} {rest : Lis
       higher b m t (no h) = omega arith
 
   -- the table with it has grown
-  pub block-grown : Grown S (suc N) table (placed table (entering N rest mask) [])
+  pub block-grown : Grown S (suc N) table (placed table (entering N rest mask entered) [])
   block-grown = entered-grown (inv .kept) block-enters
 
   -- what was pending is blocked now
-  pub block-covers : Covered (placed table (entering N rest mask) []) (suc (N - suc (length rest))) (p .case)
+  pub block-covers : Covered (placed table (entering N rest mask entered) []) (suc (N - suc (length rest))) (p .case)
   block-covers = record {
-    blocker = entering N rest mask;
-    listed = placed-new table (entering N rest mask) [];
+    blocker = entering N rest mask entered;
+    listed = placed-new table (entering N rest mask entered) [];
     high = omega arith;
     inside = passing .contains;
   }
 
   -- the cases above it go on waiting
-  block-chain : Chain S (placed table (entering N rest mask) []) N rest
+  block-chain : Chain S (placed table (entering N rest mask entered) []) N rest
   block-chain = chain-stays from (omega (arith, chain-lowest (inv .chain) .high)) (chain-rest (inv .chain))
     where
-      from : Each (λ b. b ∈ table ⊎ (b .level ≤ suc (N - suc (length rest)))) (placed table (entering N rest mask) [])
-      from b m = at (placed-from table (entering N rest mask) [] m)
+      from : Each (λ b. b ∈ table ⊎ (b .level ≤ suc (N - suc (length rest)))) (placed table (entering N rest mask entered) [])
+      from b m = at (placed-from table (entering N rest mask entered) [] m)
         where
-          at : (b ≡ entering N rest mask) ⊎ (b ∈ (table ++ []) × T (neg (leaves (entering N rest mask) b)))
+          at : (b ≡ entering N rest mask entered) ⊎ (b ∈ (table ++ []) × T (neg (leaves (entering N rest mask entered) b)))
               → b ∈ table ⊎ (b .level ≤ suc (N - suc (length rest)))
           at (inl e) = inr (rw e (omega arith))
           at (inr r) = inl (rw append-nil at (r .0))
@@ -309,13 +309,13 @@ module _ {S : System} (lawful : Lawful S) (finalsClear : FinalsClear S) where
         }
 
     -- after a block
-    pub block-holds : {mask : ℕ} → Passes S table (N - suc (length rest)) (p .case) mask
-        → Invariant S (placed table (entering N rest mask) []) N (pendingAfter (S .initial) (S .finals) (placed table (entering N rest mask) []) N rest)
-    block-holds {mask} passing =
-        let grown = block-grown inv passing in
+    pub block-holds : {mask : ℕ} (entered : ℕ) → Passes S table (N - suc (length rest)) (p .case) mask
+        → Invariant S (placed table (entering N rest mask entered) []) N (pendingAfter (S .initial) (S .finals) (placed table (entering N rest mask entered) []) N rest)
+    block-holds {mask} entered passing =
+        let grown = block-grown inv entered passing in
         record {
           kept = grown .kept;
-          chain = after-chain rest (omega (arith, chain-lowest (inv .chain) .high)) (grown .kept .stands) (block-chain inv passing);
-          done = after-done (placed table (entering N rest mask) []) N rest;
+          chain = after-chain rest (omega (arith, chain-lowest (inv .chain) .high)) (grown .kept .stands) (block-chain inv entered passing);
+          done = after-done (placed table (entering N rest mask entered) []) N rest;
           before = λ j l F m. blocked-stays-blocked (grown .grows) (inv .before j l F m);
         }

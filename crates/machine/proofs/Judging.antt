@@ -10,14 +10,15 @@ use Rattle.automata.specs.Image.{Valid}
 use Rattle.automata.specs.Automaton.{automatonOf, HoldOne}
 use Rattle.automata.specs.Acceptance.{Accepted}
 use Rattle.machine.specs.System.{System}
-use Rattle.machine.specs.Machine.{ends, comesTo}
+use Rattle.machine.specs.Machine.{Blocker, ends, comesTo}
 use Rattle.machine.specs.Machine.{Outcome, nonempty, empty, stepsLack, blockersLack, wordLacks}
-use Rattle.machine.specs.Meaning.{Closed}
-use Rattle.machine.specs.Lent.{column, maskOf, levelOf, placed}
+use Rattle.machine.specs.Meaning.{Closed, EnteredInOrder}
+use Rattle.machine.specs.Lent.{BlockerRoom, EvenRoom, column, maskOf, levelOf, enteredOf, placed, eachTable, withTable}
 use Rattle.machine.specs.Runs.{Lent, systemOf, roomsOf, numberOf, casesIn, symbolsIn, tablesAfter, resultOf}
 use Rattle.machine.specs.Promises.{heldBy, WordFound, Rules, Agreed}
 use Rattle.machine.proofs.Language.{IsVerdict, Word, accepts, Lawful, Agree, both-nonempty, both-empty, Decided, decidedNonempty, decidedEmpty}
 use Rattle.machine.proofs.Verdicts.{closed-none}
+use Rattle.machine.proofs.Entering.{Stamped}
 use Rattle.machine.proofs.Chains.{Done}
 use Rattle.machine.proofs.Agreeing.{right-verdicts-agree}
 use Rattle.machine.proofs.LentTables.{column-whole, placed-whole, placed-none, read-back}
@@ -34,17 +35,22 @@ number-low (wordLacks c) = omega arith
 
 -- lent tables of a room are equally long
 pub record Even (lent : Lent) : Type 0 where
-  pub levels : length (lent .masks) ≡ length (lent .levels)
+  pub blockers : EvenRoom (lent .room)
   pub symbols : length (lent .cases) ≡ length (lent .symbols)
 
 module _ (lent : Lent) (even : Even lent) (o : Outcome) where
-  masks-end : resultOf lent (ends o) .tables .masks ≡ column maskOf (comesTo (ends o) .table) ++ replicate (length (lent .masks) - length (comesTo (ends o) .table)) 0
-  unfolding resultOf tablesAfter
-  masks-end = column-whole maskOf (comesTo (ends o) .table) (length (lent .masks)) (lent .masks) refl
+  -- what the blocker room holds when these blockers stand in it
+  endRoom : List Blocker → BlockerRoom
+  endRoom table = eachTable (λ field before. column field table ++ replicate (length before - length table) 0) (lent .room)
 
-  levels-end : resultOf lent (ends o) .tables .levels ≡ column levelOf (comesTo (ends o) .table) ++ replicate (length (lent .levels) - length (comesTo (ends o) .table)) 0
-  unfolding resultOf tablesAfter
-  levels-end = column-whole levelOf (comesTo (ends o) .table) (length (lent .masks)) (lent .levels) (even .levels)
+  room-end : resultOf lent (ends o) .tables .room ≡ endRoom (comesTo (ends o) .table)
+  unfolding resultOf tablesAfter withTable endRoom
+  room-end =
+      let whole : (field : Blocker → ℕ) (before : List ℕ) → length (lent .room .masks) ≡ length before
+      → placed (length (lent .room .masks)) (column field (comesTo (ends o) .table)) before
+      ≡ column field (comesTo (ends o) .table) ++ replicate (length before - length (comesTo (ends o) .table)) 0
+      = λ field before e. column-whole field (comesTo (ends o) .table) (length (lent .room .masks)) before e in
+      rw (whole maskOf (lent .room .masks) refl, whole levelOf (lent .room .levels) (even .blockers .levels), whole enteredOf (lent .room .entered) (even .blockers .entered))
 
   cases-end : resultOf lent (ends o) .tables .cases ≡ replicate (length (lent .cases)) 0
   unfolding resultOf tablesAfter casesIn
@@ -60,14 +66,19 @@ module _ (lent : Lent) (even : Even lent) (o : Outcome) where
 
   -- the blockers that the result counts are those of the configuration
   held-end : heldBy (resultOf lent (ends o)) ≡ comesTo (ends o) .table
+  unfolding endRoom
   held-end =
-      rw (result-blockers, masks-end, levels-end) (read-back (comesTo (ends o) .table) _ _)
+      rw (result-blockers, room-end)
+      (read-back (comesTo (ends o) .table) (eachTable (λ field before. replicate (length before - length (comesTo (ends o) .table)) 0) (lent .room)))
 
-  leaves-masks : resultOf lent (ends o) .tables .masks ≡ column maskOf (heldBy (resultOf lent (ends o))) ++ replicate (length (lent .masks) - resultOf lent (ends o) .blockers) 0
-  leaves-masks = masks-end ∙ sym (rw (held-end, result-blockers))
+  leaves-blockers : resultOf lent (ends o) .tables .room
+      ≡ eachTable (λ field before. column field (heldBy (resultOf lent (ends o))) ++ replicate (length before - resultOf lent (ends o) .blockers) 0) (lent .room)
+  unfolding endRoom
+  leaves-blockers = room-end ∙ sym (rw (held-end, result-blockers))
 
-  leaves-levels : resultOf lent (ends o) .tables .levels ≡ column levelOf (heldBy (resultOf lent (ends o))) ++ replicate (length (lent .levels) - resultOf lent (ends o) .blockers) 0
-  leaves-levels = levels-end ∙ sym (rw (held-end, result-blockers))
+  entered-in-order : Stamped (comesTo (ends o)) → EnteredInOrder 0 (resultOf lent (ends o) .steps) (heldBy (resultOf lent (ends o)))
+  unfolding resultOf
+  entered-in-order = subst (EnteredInOrder 0 (comesTo (ends o) .steps)) (sym held-end)
 
 module _ (image : List ℕ) (lent : Lent) (valid : Valid image) (even : Even lent) where
   S : System
@@ -131,8 +142,8 @@ module _ (image : List ℕ) (lent : Lent) (valid : Valid image) (even : Even len
         held-fits = d .counted .table-fits;
         leaves-cases = cases-end lent even o;
         leaves-symbols = leaves-symbols o;
-        leaves-masks = leaves-masks lent even o;
-        leaves-levels = leaves-levels lent even o;
+        leaves-blockers = leaves-blockers lent even o;
+        entered-in-order = entered-in-order lent even o (d .stamped);
       }
 
 -- an outcome that shows a verdict is one

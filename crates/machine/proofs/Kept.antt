@@ -2,7 +2,7 @@
 use Rattle.machine.specs.Promises.{Promises}
 use Rattle.automata.proofs.Reading.{reading-refused, reading-refused-values, reading-valid, reading-valid-values}
 use Rattle.machine.proofs.WordTests.{refuses-image, refuses-symbol, says-yes, says-no, same-answer}
-use Rattle.machine.proofs.RunsKept.{run-promises, runs-agree, block-unpends}
+use Rattle.machine.proofs.RunsKept.{run-promises, runs-agree, block-unpends, entered-in-order}
 
 pub kept : Promises
 kept = record {
@@ -18,4 +18,5 @@ kept = record {
   runs = run-promises;
   runs-agree = runs-agree;
   block-unpends = block-unpends;
+  entered-in-order = entered-in-order;
 }

@@ -21,15 +21,20 @@ use lib.ListN.{
 use lib.Seq.{take-suc, drop-drop, append-snoc, getD-at, length-take-le}
 use Rattle.machine.specs.Machine.{Blocker, Pending}
 use Rattle.machine.specs.Lent.{
+  BlockerRoom,
+  blockerAt,
   blockersFrom,
   pendingFirst,
   column,
   columnBack,
   maskOf,
   levelOf,
+  enteredOf,
   caseOf,
   symbolOf,
   placed,
+  eachTable,
+  withTable,
 }
 
 -- a column is as long as what it is of
@@ -62,33 +67,75 @@ placed-exact new before old e =
     let most : max old (length new) ≡ old = omega arith in
     rw (free, most, append-nil)
 
+-- changes of the blocker room's tables that are the same of each table are the same of the room
+pub tables-same : (f g : (Blocker → ℕ) → List ℕ → List ℕ) (room : BlockerRoom)
+    → ((field : Blocker → ℕ) (table : List ℕ) → f field table ≡ g field table) → eachTable f room ≡ eachTable g room
+tables-same f g room same = rw (same maskOf (room .masks), same levelOf (room .levels), same enteredOf (room .entered))
+
 -- the blockers one place further, behind one more entry
-shifted : (mask level : ℕ) (masks levels : List ℕ) (count at : ℕ)
-    → blockersFrom (mask ∷ masks) (level ∷ levels) count (suc at) ≡ blockersFrom masks levels count at
+shifted : (blocker : Blocker) (room : BlockerRoom) (count at : ℕ)
+    → blockersFrom (eachTable (λ field table. field blocker ∷ table) room) count (suc at) ≡ blockersFrom room count at
 unfolding blockersFrom
-shifted mask level masks levels zero at = refl
-shifted mask level masks levels (suc count) at =
-    ap (λ (rest : List Blocker). record { mask = getD masks at 0; level = getD levels at 0 } ∷ rest) (shifted mask level masks levels count (suc at))
+shifted blocker room zero at = refl
+shifted blocker room (suc count) at = ap (λ (rest : List Blocker). blockerAt room at ∷ rest) (shifted blocker room count (suc at))
 
--- columns at the front of two tables are read back
-pub read-back : (table : List Blocker) (masks levels : List ℕ)
-    → blockersFrom (column maskOf table ++ masks) (column levelOf table ++ levels) (length table) 0 ≡ table
+-- the blockers behind some others
+behind-others : (first : List Blocker) (room : BlockerRoom) (count : ℕ)
+    → blockersFrom (eachTable (λ field table. column field first ++ table) room) count (length first) ≡ blockersFrom room count 0
+unfolding column
+behind-others [] room count = refl
+behind-others (blocker ∷ first) room count =
+    shifted blocker (eachTable (λ field table. column field first ++ table) room) count (length first) ∙ behind-others first room count
+
+-- columns at the front of the tables are read back
+pub read-back : (table : List Blocker) (room : BlockerRoom)
+    → blockersFrom (eachTable (λ field behind. column field table ++ behind) room) (length table) 0 ≡ table
 unfolding blockersFrom column
-read-back [] masks levels = refl
-read-back (blocker ∷ table) masks levels =
+read-back [] room = refl
+read-back (blocker ∷ table) room =
     ap (λ (rest : List Blocker). blocker ∷ rest)
-    (shifted (blocker .mask) (blocker .level) (column maskOf table ++ masks) (column levelOf table ++ levels) (length table) 0 ∙ read-back table masks levels)
+    (shifted blocker (eachTable (λ field behind. column field table ++ behind) room) (length table) 0 ∙ read-back table room)
 
--- so they are where they stand in place of others
-pub read-back-table : (table : List Blocker) (old older : ℕ) (masks levels : List ℕ)
-    → blockersFrom (placed old (column maskOf table) masks) (placed older (column levelOf table) levels) (length table) 0 ≡ table
-unfolding placed
-read-back-table table old older masks levels =
-    rw (
-      append-assoc (column maskOf table) (replicate (old - length (column maskOf table)) 0) (drop (max old (length (column maskOf table))) masks),
-      append-assoc (column levelOf table) (replicate (older - length (column levelOf table)) 0) (drop (max older (length (column levelOf table))) levels),
-    )
-    (read-back table _ _)
+-- what follows the new entries: 0 in each place that became free, and what stood there before
+unfoldable pub behind : ℕ → List ℕ → List ℕ → List ℕ
+behind old new before = replicate (old - length new) 0 ++ drop (max old (length new)) before
+
+pub placed-behind : (old : ℕ) (new before : List ℕ) → placed old new before ≡ new ++ behind old new before
+unfolding placed behind
+placed-behind old new before = append-assoc new (replicate (old - length new) 0) (drop (max old (length new)) before)
+
+-- a list's column is made of those of its parts
+pub column-append : {A : Type 0} (field : A → ℕ) (table more : List A) → column field (table ++ more) ≡ column field table ++ column field more
+unfolding column
+column-append field [] more = refl
+column-append field (entry ∷ table) more = ap (λ (l : List ℕ). field entry ∷ l) (column-append field table more)
+
+-- Where blockers stand in place of others, any part of them is read where it stands among them.
+pub read-part : (old : ℕ) (first part rest : List Blocker) (room : BlockerRoom)
+    → blockersFrom (withTable old (first ++ part ++ rest) room) (length part) (length first) ≡ part
+unfolding withTable
+read-part old first part rest room =
+    let all : List Blocker = first ++ part ++ rest in
+    let after : BlockerRoom = eachTable (λ field before. column field rest ++ behind old (column field all) before) room in
+    ap (λ (new : BlockerRoom). blockersFrom new (length part) (length first)) (tables-same _ _ room parts)
+    ∙ behind-others first (eachTable (λ field table. column field part ++ table) after) (length part)
+    ∙ read-back part after
+  where
+    parts : (field : Blocker → ℕ) (before : List ℕ) → placed old (column field (first ++ part ++ rest)) before
+        ≡ column field first ++ (column field part ++ (column field rest ++ behind old (column field (first ++ part ++ rest)) before))
+    parts field before =
+        let behind-all : List ℕ = behind old (column field (first ++ part ++ rest)) before in
+        placed-behind old (column field (first ++ part ++ rest)) before
+        ∙ ap (λ (new : List ℕ). new ++ behind-all)
+        (column-append field (first ++ part) rest ∙ ap (λ (new : List ℕ). new ++ column field rest) (column-append field first part))
+        ∙ append-assoc (column field first ++ column field part) (column field rest) behind-all
+        ∙ append-assoc (column field first) (column field part) (column field rest ++ behind-all)
+
+-- so all of them are
+pub read-back-table : (table : List Blocker) (old : ℕ) (room : BlockerRoom) → blockersFrom (withTable old table room) (length table) 0 ≡ table
+read-back-table table old room =
+    ap (λ (all : List Blocker). blockersFrom (withTable old all room) (length table) 0) (sym (append-nil table))
+    ∙ read-part old [] table [] room
 
 -- a column in place of a whole table: its entries, and 0 after them
 pub column-whole : {A : Type 0} (field : A → ℕ) (entries : List A) (old : ℕ) (before : List ℕ) → old ≡ length before

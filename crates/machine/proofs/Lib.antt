@@ -7,6 +7,7 @@ pub mod Steps
 pub mod Invariant
 pub mod Verdicts
 pub mod Standing
+pub mod Entering
 pub mod Measure
 pub mod Bound
 pub mod Agreeing
@@ -14,6 +15,7 @@ pub mod Chains
 pub mod Driving
 pub mod Unpending
 pub mod LentTables
+pub mod Unstamped
 pub mod WordTests
 pub mod Images
 pub mod Judging

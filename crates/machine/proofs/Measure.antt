@@ -18,6 +18,7 @@ use Rattle.masks.specs.Sets.{subset, full}
 use Rattle.masks.proofs.Laws.{subset-reflexive, subset-transitive, within-below, full-within, suc-full, within-full}
 use Rattle.machine.specs.System.{System}
 use Rattle.machine.specs.Machine.{Blocker, blocked, noneAt}
+use Rattle.machine.specs.Lent.{blockerOf}
 use Rattle.machine.proofs.Language.{Lawful}
 use Rattle.machine.proofs.Tables.{Blocked, blocked-covered, blocked-means, means-blocked, blocked-stays-blocked, Grows}
 use Rattle.machine.proofs.Rising.{Apart, Kept}
@@ -76,7 +77,7 @@ module _ {S : System} (lawful : Lawful S) {top : ℕ} {table : List Blocker} (ke
   few-blockers = pigeonhole (λ b. b .mask) (2 ^ S .states) (all ∷ table) (cons differ (masks-differ (kept .apart))) low
     where
       all : Blocker
-      all = record { mask = full (S .states); level = 0 }
+      all = blockerOf (full (S .states)) 0
 
       differ : Each (λ b. full (S .states) ≢ b .mask) table
       differ b m e = kept .stands b m .clear (rw (← e) full-initial)

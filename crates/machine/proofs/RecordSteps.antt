@@ -1,27 +1,27 @@
 -- A step on the record and the rooms of a run is the machine's step: what stands there is read back as the configuration, and what the step leaves is
 -- what the next configuration shows. Assumes nothing.
 use Prim.Native.Nat.{ℕ, _≤_}
-use mathlib.Core.Path.{_≡_, sym, ap, ap₂, _∙_}
+use mathlib.Core.Path.{_≡_, refl, sym, ap, ap₂, _∙_}
 use mathlib.Core.List.{List}
 use native.Mathlib.Omega.{arith}
 use lib.ListN.{length}
 use Rattle.machine.specs.System.{System}
-use Rattle.machine.specs.Machine.{Configuration, Rooms, Next, goesOn, comesTo, advance}
-use Rattle.machine.specs.Lent.{column, columnBack, maskOf, levelOf, caseOf, symbolOf, placed}
+use Rattle.machine.specs.Machine.{Blocker, Configuration, Rooms, Next, goesOn, comesTo, advance}
+use Rattle.machine.specs.Lent.{column, columnBack, maskOf, levelOf, enteredOf, caseOf, symbolOf, placed, withTable}
 use Rattle.machine.specs.Runs.{Lent, Terms, systemOf, roomsOf, givenOf, casesIn, symbolsIn, tablesAfter}
 use Rattle.machine.specs.Records.{Stage, configurationOf, pendingOf, recordOf, after, stepOf}
 use Rattle.machine.proofs.Invariant.{chain-length}
 use Rattle.machine.proofs.Chains.{Working}
-use Rattle.machine.proofs.LentTables.{column-length, column-back-length, placed-length, placed-again, read-back-table, read-back-placed}
+use Rattle.machine.proofs.LentTables.{column-length, column-back-length, placed-length, placed-again, tables-same, read-back-table, read-back-placed}
 use Rattle.machine.proofs.Judging.{Even}
 
 -- what stands in record and rooms where a run has come to n: all lent places were written
 abbrev pub shown : Lent → Next → Stage
-shown lent n = record { tables = tablesAfter (length (lent .masks)) (length (lent .cases)) lent n; run = recordOf n }
+shown lent n = record { tables = tablesAfter (length (lent .room .masks)) (length (lent .cases)) lent n; run = recordOf n }
 
 -- a configuration has its place in the lent tables
 pub record Fitting (lent : Lent) (c : Configuration) : Type 0 where
-  pub table : length (c .table) ≤ length (lent .masks)
+  pub table : length (c .table) ≤ length (lent .room .masks)
   pub pending : length (c .pending) ≤ length (lent .cases)
 
 pub working-fits : {S : System} (lent : Lent) {c : Configuration} → Working S (roomsOf lent) c → Fitting lent c
@@ -29,17 +29,22 @@ working-fits lent w = record { table = w .counted .table-fits; pending = omega (
 
 module _ (lent : Lent) (even : Even lent) (c : Configuration) (fit : Fitting lent c) where
   -- the tables that it shows are as long as those that were lent
-  pub shown-masks : length (shown lent (goesOn c) .tables .masks) ≡ length (lent .masks)
-  unfolding tablesAfter
-  shown-masks =
-      placed-length (length (lent .masks)) (column maskOf (c .table)) (lent .masks) (omega arith)
-      (omega (arith, column-length maskOf (c .table), fit .table))
+  shown-table : (field : Blocker → ℕ) (before : List ℕ) → length (lent .room .masks) ≡ length before
+      → length (placed (length (lent .room .masks)) (column field (c .table)) before) ≡ length before
+  shown-table field before e =
+      placed-length (length (lent .room .masks)) (column field (c .table)) before (omega arith) (omega (arith, column-length field (c .table), fit .table))
 
-  pub shown-levels : length (shown lent (goesOn c) .tables .levels) ≡ length (lent .levels)
-  unfolding tablesAfter
-  shown-levels =
-      placed-length (length (lent .masks)) (column levelOf (c .table)) (lent .levels) (omega (arith, even .levels))
-      (omega (arith, column-length levelOf (c .table), fit .table, even .levels))
+  pub shown-masks : length (shown lent (goesOn c) .tables .room .masks) ≡ length (lent .room .masks)
+  unfolding tablesAfter withTable
+  shown-masks = shown-table maskOf (lent .room .masks) refl
+
+  pub shown-levels : length (shown lent (goesOn c) .tables .room .levels) ≡ length (lent .room .levels)
+  unfolding tablesAfter withTable
+  shown-levels = shown-table levelOf (lent .room .levels) (even .blockers .levels)
+
+  pub shown-entered : length (shown lent (goesOn c) .tables .room .entered) ≡ length (lent .room .entered)
+  unfolding tablesAfter withTable
+  shown-entered = shown-table enteredOf (lent .room .entered) (even .blockers .entered)
 
   pub shown-cases : length (shown lent (goesOn c) .tables .cases) ≡ length (lent .cases)
   unfolding tablesAfter casesIn
@@ -61,7 +66,7 @@ module _ (lent : Lent) (even : Even lent) (c : Configuration) (fit : Fitting len
   unfolding recordOf pendingOf tablesAfter casesIn symbolsIn
   read-shown =
       rw (
-        read-back-table (c .table) (length (lent .masks)) (length (lent .masks)) (lent .masks) (lent .levels),
+        read-back-table (c .table) (length (lent .room .masks)) (lent .room),
         read-back-placed (c .pending) (length (lent .cases)) (length (lent .cases)) (lent .cases) (lent .symbols),
       )
 
@@ -71,15 +76,21 @@ module _ (lent : Lent) (even : Even lent) (c : Configuration) (fit : Fitting len
   again size old first second before e l =
       ap (λ (k : ℕ). placed k second (placed old first before)) (sym e) ∙ placed-again old first second before (omega arith)
 
+  room-again : (table : List Blocker)
+      → withTable (length (c .table)) table (withTable (length (lent .room .masks)) (c .table) (lent .room))
+      ≡ withTable (length (lent .room .masks)) table (lent .room)
+  unfolding withTable
+  room-again table =
+      tables-same _ _ (lent .room) (λ field before.
+      again (length (c .table)) (length (lent .room .masks)) (column field (c .table)) (column field table) before
+      (column-length field (c .table)) (fit .table))
+
   -- what the next configuration puts in the places in use is all that it shows
   after-shown : (n : Next) → after (shown lent (goesOn c)) n ≡ shown lent n
   unfolding after recordOf pendingOf tablesAfter casesIn symbolsIn
   after-shown n =
       rw (
-        again (length (c .table)) (length (lent .masks)) (column maskOf (c .table)) (column maskOf (comesTo n .table)) (lent .masks)
-            (column-length maskOf (c .table)) (fit .table),
-        again (length (c .table)) (length (lent .masks)) (column levelOf (c .table)) (column levelOf (comesTo n .table)) (lent .levels)
-            (column-length levelOf (c .table)) (fit .table),
+        room-again (comesTo n .table),
         again (length (c .pending)) (length (lent .cases)) (columnBack caseOf (c .pending)) (casesIn n) (lent .cases)
             (column-back-length caseOf (c .pending)) (fit .pending),
         again (length (c .pending)) (length (lent .cases)) (columnBack symbolOf (c .pending)) (symbolsIn n) (lent .symbols)

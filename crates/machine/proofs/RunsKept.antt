@@ -15,7 +15,7 @@ use Rattle.automata.proofs.Checks.{check-number}
 use Rattle.machine.specs.Machine.{Pending, Configuration, Rooms, blocks, step, Next, ends, comesTo}
 use Rattle.machine.specs.Runs.{Lent, Terms, Result, systemOf, roomsOf, refused, resultOf, oddRooms, checkRooms, checkRun}
 use Rattle.machine.specs.Runs.{givenOf, endOf, runWith, runOf}
-use Rattle.machine.specs.Meaning.{WorksIn}
+use Rattle.machine.specs.Meaning.{EnteredInOrder, WorksIn}
 use Rattle.machine.specs.Promises.{Refused, Rules, RunEnded, Decides, RunPromises, Agreed}
 use Rattle.machine.proofs.Language.{Lawful}
 use Rattle.machine.proofs.Passing.{byStates-sound}
@@ -58,8 +58,11 @@ module _ (image : List ℕ) (lent : Lent) (terms : Terms) where
       record {
         valid = v;
         even = record {
-          levels = eqb-true _ _ (is-true _ (neg-neg _ (λ t. odd (or-left _ _ t))));
-          symbols = eqb-true _ _ (is-true _ (neg-neg _ (λ t. odd (or-right _ _ t))));
+          blockers = record {
+            levels = eqb-true _ _ (is-true _ (neg-neg _ (λ t. odd (or-left _ _ t))));
+            entered = eqb-true _ _ (is-true _ (neg-neg _ (λ t. odd (or-right _ _ (or-left _ _ t)))));
+          };
+          symbols = eqb-true _ _ (is-true _ (neg-neg _ (λ t. odd (or-right _ _ (or-right _ _ t)))));
         };
       }
 
@@ -161,7 +164,7 @@ module _ (image : List ℕ) (lent : Lent) (terms : Terms) where
         let steps = ap (λ (x : Result). x .steps) (machine-run none) ∙ result-steps lent _ in
         omega (arith, steps, machine-allowed (systemOf image) lawful (roomsOf lent) (givenOf image terms) (byStates-sound (systemOf image)))
 
-    run-decides : 2 ^ statesOf image ≤ length (lent .masks) → 2 ^ statesOf image ≤ length (lent .cases) → 4 ^ suc (statesOf image) ≤ terms .allowance
+    run-decides : 2 ^ statesOf image ≤ length (lent .room .masks) → 2 ^ statesOf image ≤ length (lent .cases) → 4 ^ suc (statesOf image) ≤ terms .allowance
         → Decides image lent terms (4 ^ suc (statesOf image)) (runOf image lent terms)
     unfolding endOf
     run-decides places levels enough =
@@ -228,3 +231,9 @@ pub block-unpends : (image : List ℕ) (rooms : Rooms) (terms : Terms) (X : Pend
 block-unpends image rooms terms X rest c d valid works waits made =
     let w = works-in (systemOf image) (image-lawful image valid) rooms (givenOf image terms) (byStates-sound (systemOf image)) works in
     block-leaves (systemOf image) refl (givenOf image terms) (byStates-sound (systemOf image)) c (w .holds) waits made
+
+-- in every table that a run comes to, its blockers entered in order
+pub entered-in-order : (image : List ℕ) (rooms : Rooms) (terms : Terms) (c : Configuration) → Valid image
+    → WorksIn (systemOf image) rooms (givenOf image terms) c → EnteredInOrder 0 (c .steps) (c .table)
+entered-in-order image rooms terms c valid works =
+    works-in (systemOf image) (image-lawful image valid) rooms (givenOf image terms) (byStates-sound (systemOf image)) works .stamped

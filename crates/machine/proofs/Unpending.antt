@@ -54,20 +54,20 @@ module _ (S : System) {F : ℕ} (one : S .finals ≡ F ∷ []) where
       at (inr k) = absurd (in-none k)
 
   -- after a block the cases above are pending, and no other
-  after-block : {table : List Blocker} {N : ℕ} {p : Pending} (rest : List Pending) (inv : Invariant S table N (p ∷ rest)) {mask : ℕ}
+  after-block : {table : List Blocker} {N : ℕ} {p : Pending} (rest : List Pending) (inv : Invariant S table N (p ∷ rest)) {mask : ℕ} (entered : ℕ)
       → Passes S table (N - suc (length rest)) (p .case) mask
-      → pendingAfter (S .initial) (S .finals) (placed table (entering N rest mask) []) N rest ≡ rest
+      → pendingAfter (S .initial) (S .finals) (placed table (entering N rest mask entered) []) N rest ≡ rest
   unfolding pendingAfter
-  after-block {table} {N} {p} [] inv {mask} passing =
+  after-block {table} {N} {p} [] inv {mask} entered passing =
       let own = chain-lowest (inv .chain) in
       let level : suc (N - 1) ≡ N = omega (arith, own .high) in
-      let test = is-true _ (means-blocked {S = S} (byBlocker (block-covers inv passing))) in
-      let new : List Blocker = placed table (entering N [] mask) [] in
+      let test = is-true _ (means-blocked {S = S} (byBlocker (block-covers inv entered passing))) in
+      let new : List Blocker = placed table (entering N [] mask entered) [] in
       ap (λ (finals : List ℕ). finalPending (S .initial) finals new N) one
       ∙ blocked-waits-not (S .initial) F new N
       (subst (λ (i : ℕ). blocked (S .initial) new i F ≡ true) level
       (subst (λ (X : ℕ). blocked (S .initial) new (suc (N - 1)) X ≡ true) (only-final (own .comes)) test))
-  after-block (q ∷ rest) inv passing = refl
+  after-block (q ∷ rest) inv entered passing = refl
 
   pub block-leaves : (given : Given) → Sound S (given .grow) → (c : Configuration) → Holds S c → {X : Pending} {rest : List Pending} {d : Configuration}
       → c .pending ≡ X ∷ rest → step S given c ≡ blocks d → d .pending ≡ rest
@@ -81,6 +81,6 @@ module _ (S : System) {F : ℕ} (one : S .finals ≡ F ∷ []) where
       at (extending s l t u) h w e = absurd (blocks-only e refl)
       at (blocking {p = p} {rest = others} f) h w e =
           let passing = chosen-passes sound (unqualified-passes h f) (chosen-is S given c (under c others) (p .case)) in
-          ap (λ (st : Step). madeBy st .pending) (sym e) ∙ after-block others h passing ∙ ap above w
+          ap (λ (st : Step). madeBy st .pending) (sym e) ∙ after-block others h _ passing ∙ ap above w
       at (closing q) h w e = absurd (blocks-only e refl)
       at (emptying j l k t) h w e = absurd (blocks-only e refl)

@@ -172,7 +172,7 @@ module _ (S : System) (lawful : Lawful S) (clear : FinalsClear S) where
       at (finding s l t u) h = let r = found-shortest lawful h s l u in record { shortest = r .0; long = r .1 }
       at (extending s l t u) h = extend-holds lawful clear h s l t u
       at (blocking {p = p} {rest = rest} f) h =
-          block-holds lawful clear h (chosen-passes sound (unqualified-passes h f) (chosen-is S given c (under c rest) (p .case)))
+          block-holds lawful clear h _ (chosen-passes sound (unqualified-passes h f) (chosen-is S given c (under c rest) (p .case)))
       at (closing e) h = close-holds h
       at (emptying j l k t) h = frame-closed (close-holds h) j l k t
 

@@ -1,18 +1,43 @@
 -- What lent tables say of a configuration, and what stands in them after a change: one reading and one writing for all of them. Assumes nothing.
 use Prim.Native.Nat.{ℕ, zero, suc, _-_, min, max}
+use mathlib.Core.Path.{_≡_}
 use mathlib.Core.List.{List, [], _∷_, _++_}
 use lib.ListN.{length, getD, drop, replicate}
 use Rattle.machine.specs.Machine.{Blocker, Pending}
 
--- the `count` blockers from a place on, of a table of masks and one of levels
-unfoldable pub blockersFrom : List ℕ → List ℕ → ℕ → ℕ → List Blocker
-blockersFrom masks levels zero at = []
-blockersFrom masks levels (suc count) at =
-    record { mask = getD masks at 0; level = getD levels at 0 } ∷ blockersFrom masks levels count (suc at)
+-- "Blocker room becomes three tables": the masks, the levels, and the steps with which the blockers entered
+pub record BlockerRoom : Type 0 where
+  pub masks : List ℕ
+  pub levels : List ℕ
+  pub entered : List ℕ
+
+abbrev pub roomOf : List ℕ → List ℕ → List ℕ → BlockerRoom
+roomOf masks levels entered = record { masks = masks; levels = levels; entered = entered }
+
+-- its tables are of one length
+pub record EvenRoom (room : BlockerRoom) : Type 0 where
+  pub levels : length (room .masks) ≡ length (room .levels)
+  pub entered : length (room .masks) ≡ length (room .entered)
+
+-- the blocker at a place
+abbrev pub blockerAt : BlockerRoom → ℕ → Blocker
+blockerAt room i = record { mask = getD (room .masks) i 0; level = getD (room .levels) i 0; entered = getD (room .entered) i 0 }
+
+-- the `count` blockers from a place on
+unfoldable pub blockersFrom : BlockerRoom → ℕ → ℕ → List Blocker
+blockersFrom room zero at = []
+blockersFrom room (suc count) at = blockerAt room at ∷ blockersFrom room count (suc at)
+
+-- A blocker of which only mask and level are asked, and masks and levels without the third table: when these blockers entered is not said.
+abbrev pub blockerOf : ℕ → ℕ → Blocker
+blockerOf mask level = record { mask = mask; level = level; entered = 0 }
+
+abbrev pub unstampedRoom : List ℕ → List ℕ → BlockerRoom
+unstampedRoom masks levels = roomOf masks levels []
 
 -- the blockers of a table of masks and one of levels: where they differ in length, the shorter says how many
 abbrev pub blockersIn : List ℕ → List ℕ → List Blocker
-blockersIn masks levels = blockersFrom masks levels (min (length masks) (length levels)) 0
+blockersIn masks levels = blockersFrom (unstampedRoom masks levels) (min (length masks) (length levels)) 0
 
 -- the first `count` pending cases, of a table of cases and one of symbols: "the case pending at the highest level in its first place and the lower
 -- ones after it, each with the symbol that led to it", so the lowest stands last and comes first here
@@ -36,6 +61,9 @@ maskOf blocker = blocker .mask
 abbrev pub levelOf : Blocker → ℕ
 levelOf blocker = blocker .level
 
+abbrev pub enteredOf : Blocker → ℕ
+enteredOf blocker = blocker .entered
+
 abbrev pub caseOf : Pending → ℕ
 caseOf p = p .case
 
@@ -46,3 +74,15 @@ symbolOf p = p .symbol
 -- stood there before
 unfoldable pub placed : ℕ → List ℕ → List ℕ → List ℕ
 placed old new before = new ++ replicate (old - length new) 0 ++ drop (max old (length new)) before
+
+-- the same change of each table of the blocker room, by the field of a blocker that the table holds
+abbrev pub eachTable : ((Blocker → ℕ) → List ℕ → List ℕ) → BlockerRoom → BlockerRoom
+eachTable change room = record {
+  masks = change maskOf (room .masks);
+  levels = change levelOf (room .levels);
+  entered = change enteredOf (room .entered);
+}
+
+-- the room with these blockers in place of its first `old` ones
+unfoldable pub withTable : ℕ → List Blocker → BlockerRoom → BlockerRoom
+withTable old table = eachTable (λ field before. placed old (column field table) before)

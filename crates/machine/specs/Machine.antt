@@ -11,10 +11,11 @@ use Rattle.lists.specs.Lists.{any, keep, firstFrom, eachFrom}
 use Rattle.masks.specs.Sets.{subset, union, single, member, within}
 use Rattle.machine.specs.System.{System}
 
--- "A blocker is a mask with a level of 1 or more."
+-- "A blocker is a mask with a level of 1 or more." 02, 10: "an entry gets a third number, the count of steps including the block that made it"
 pub record Blocker : Type 0 where
   pub mask : ℕ
   pub level : ℕ
+  pub entered : ℕ
 
 -- a pending case, "with the symbol that led to it, and 0 for the first one's symbol"
 pub record Pending : Type 0 where
@@ -163,10 +164,10 @@ unfoldable pub pendingAfter : ℕ → List ℕ → List Blocker → ℕ → List
 pendingAfter initial finals table N [] = finalPending initial finals table N
 pendingAfter initial finals table N (p ∷ rest) = p ∷ rest
 
--- "Y enters at the end with level i; X is no longer pending."
+-- "Y enters at the end with level i; X is no longer pending." It entered with this step.
 unfoldable pub blockStep : ℕ → List ℕ → Configuration → List Pending → ℕ → Choice → Step
 blockStep initial finals c rest below choice =
-    let Y : Blocker = record { mask = choice .mask; level = suc below } in
+    let Y : Blocker = record { mask = choice .mask; level = suc below; entered = suc (c .steps) } in
     let table : List Blocker = staying Y (c .table) ++ Y ∷ [] in
     blocks (record {
       table = table;
@@ -194,8 +195,9 @@ unfoldable pub rises : System → List Blocker → ℕ → Blocker → Bool
 rises S table j blocker =
     eqb (blocker .level) j and eachFrom (λ s. blocked (S .initial) table j (S .backward s (blocker .mask))) (S .symbols) 0
 
+-- "rising doesn't alter" when it entered
 unfoldable pub risen : Blocker → Blocker
-risen blocker = record { mask = blocker .mask; level = suc (blocker .level) }
+risen blocker = record { mask = blocker .mask; level = suc (blocker .level); entered = blocker .entered }
 
 -- "in table order, .. rises to j+1 in place; other subsets of it of level ≤ j+1 leave and the rest close up". The walk has passed the first list
 -- and goes on with the second; `turns` is at least the second's length.

@@ -1,8 +1,8 @@
--- What the promises say of runs: a closed frame, and where a run ended and what it lacked there.
+-- What the promises say of runs: a closed frame, when its blockers entered, and where a run ended and what it lacked there.
 -- Assumes nothing: these are definitions.
 use Prim.Native.Nat.{ℕ, _≤_, _<_}
 use mathlib.Core.Path.{_≡_}
-use mathlib.Core.List.{List}
+use mathlib.Core.List.{List, [], _∷_}
 use lib.Dec.{T}
 use lib.ListN.{length, replicate}
 use Rattle.lists.specs.Lists.{_∈_, Each}
@@ -22,6 +22,12 @@ pub record Closed (S : System) (frame : List Blocker) : Type 0 where
   pub final : Each (λ F. Inside frame F) (S .finals)
   pub initial : Each (λ blocker. T (subset (S .initial) (blocker .mask)) → ⊥) frame
   pub backward : Each (λ blocker. (s : ℕ) → s < S .symbols → Inside frame (S .backward s (blocker .mask))) frame
+
+-- in table order each blocker entered with a later step than the one before it: the first after step `before`, the last by step `by`
+unfoldable pub EnteredInOrder : ℕ → ℕ → List Blocker → Type 0
+EnteredInOrder before by [] = Unit {0}
+EnteredInOrder before by (blocker ∷ table) =
+    (before < blocker .entered) × (blocker .entered ≤ by) × EnteredInOrder (blocker .entered) by table
 
 -- the next step is allowed, and is one of this sort that lacks room
 pub record NoRoom (S : System) (given : Given) (c : Configuration) (Sort : Configuration → Step) (Full : Configuration → Type 0) : Type 0 where

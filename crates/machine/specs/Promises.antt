@@ -12,8 +12,8 @@ use Rattle.automata.specs.Acceptance.{Accepted}
 use Rattle.automata.specs.WordTest.{wordTest}
 use Rattle.automata.specs.Answers.{readImage, imageNumber, headAfter}
 use Rattle.machine.specs.Machine.{Blocker, Pending, Configuration, Rooms, Outcome, ends, begin, blocks, step}
-use Rattle.machine.specs.Meaning.{Closed, WorksIn, EndedBy}
-use Rattle.machine.specs.Lent.{blockersFrom, column, maskOf, levelOf}
+use Rattle.machine.specs.Meaning.{Closed, EnteredInOrder, WorksIn, EndedBy}
+use Rattle.machine.specs.Lent.{blockersFrom, column, eachTable}
 use Rattle.machine.specs.Runs.{Lent, Terms, Result, systemOf, roomsOf, givenOf, endOf, resultOf, checkRun, runOf}
 
 -- a symbol of the word is k or above
@@ -24,7 +24,7 @@ pub record HasUnknown (image word : List ℕ) : Type 0 where
 
 -- the blockers that a result counts, as they stand in the tables
 abbrev pub heldBy : Result → List Blocker
-heldBy r = blockersFrom (r .tables .masks) (r .tables .levels) (r .blockers) 0
+heldBy r = blockersFrom (r .tables .room) (r .blockers) 0
 
 -- refused: "From 20 up the other four are 0 and no lent place changes."
 pub record Refused (lent : Lent) (number : ℕ) (r : Result) : Type 0 where
@@ -53,11 +53,13 @@ pub record Rules (image : List ℕ) (lent : Lent) (r : Result) : Type 0 where
   pub empty-frame : r .number ≡ 0 → Closed (systemOf image) (heldBy r)
   -- "Below 20, pending cases are all 0; the symbol table holds .. 0 elsewhere; the blocker room holds the entries in table order, with 0 after them."
   pub other : r .number ≤ 4
-  pub held-fits : r .blockers ≤ length (lent .masks)
+  pub held-fits : r .blockers ≤ length (lent .room .masks)
   pub leaves-cases : r .tables .cases ≡ replicate (length (lent .cases)) 0
   pub leaves-symbols : (r .number ≡ 1 → ⊥) → r .tables .symbols ≡ replicate (length (lent .symbols)) 0
-  pub leaves-masks : r .tables .masks ≡ column maskOf (heldBy r) ++ replicate (length (lent .masks) - r .blockers) 0
-  pub leaves-levels : r .tables .levels ≡ column levelOf (heldBy r) ++ replicate (length (lent .levels) - r .blockers) 0
+  pub leaves-blockers : r .tables .room
+      ≡ eachTable (λ field before. column field (heldBy r) ++ replicate (length before - r .blockers) 0) (lent .room)
+  -- 02, 10: the steps with which its blockers entered rise in table order, from 1 on and up to the steps made
+  pub entered-in-order : EnteredInOrder 0 (r .steps) (heldBy r)
 
 -- how a run ended: at its start, or by the step at which 01's machine answers or lacks steps or room
 pub record RunEnded (image : List ℕ) (lent : Lent) (terms : Terms) (r : Result) : Type 0 where
@@ -74,7 +76,7 @@ withAllowance allowance terms = record { hints = terms .hints; allowance = allow
 pub record Decides (image : List ℕ) (lent : Lent) (terms : Terms) (most : ℕ) (r : Result) : Type 0 where
   pub verdict : r .number ≤ 1
   pub in-time : r .steps ≤ most
-  pub unbounded : (rooms : Rooms) (more : ℕ) → length (lent .masks) ≤ rooms .blockers → length (lent .cases) ≤ rooms .word
+  pub unbounded : (rooms : Rooms) (more : ℕ) → length (lent .room .masks) ≤ rooms .blockers → length (lent .cases) ≤ rooms .word
       → terms .allowance ≤ more → r ≡ resultOf lent (endOf image rooms (withAllowance more terms))
 
 -- the promises of one run
@@ -90,7 +92,7 @@ pub record RunPromises (image : List ℕ) (lent : Lent) (terms : Terms) (r : Res
   pub in-allowance : r .steps ≤ terms .allowance
   -- "with n ≤ 16, 2^n places and 4^(n+1) steps every run that is not refused reaches the verdict, with the machine's own count of steps, at most
   -- 4^(n+1)"; n ≤ 16 is what lets 2^n places pass check 31
-  pub decides : checkRun image lent terms ≡ 0 → statesOf image ≤ 16 → 2 ^ statesOf image ≤ length (lent .masks)
+  pub decides : checkRun image lent terms ≡ 0 → statesOf image ≤ 16 → 2 ^ statesOf image ≤ length (lent .room .masks)
       → 2 ^ statesOf image ≤ length (lent .cases) → 4 ^ suc (statesOf image) ≤ terms .allowance
       → Decides image lent terms (4 ^ suc (statesOf image)) r
 
@@ -125,3 +127,6 @@ pub record Promises : Type 0 where
   pub block-unpends : (image : List ℕ) (rooms : Rooms) (terms : Terms) (X : Pending) (rest : List Pending) (c d : Configuration) → Valid image
       → WorksIn (systemOf image) rooms (givenOf image terms) c → c .pending ≡ X ∷ rest → step (systemOf image) (givenOf image terms) c ≡ blocks d
       → d .pending ≡ rest
+  -- 02, 10, of every table that a run comes to on its way
+  pub entered-in-order : (image : List ℕ) (rooms : Rooms) (terms : Terms) (c : Configuration) → Valid image
+      → WorksIn (systemOf image) rooms (givenOf image terms) c → EnteredInOrder 0 (c .steps) (c .table)

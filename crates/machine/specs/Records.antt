@@ -28,7 +28,7 @@ pub record Stage : Type 0 where
 -- the configuration that they stand for: the places in use, as the record counts them
 abbrev pub configurationOf : Stage → Configuration
 configurationOf at = record {
-  table = blockersFrom (at .tables .masks) (at .tables .levels) (at .run .held) 0;
+  table = blockersFrom (at .tables .room) (at .run .held) 0;
   level = at .run .level;
   isOpen = at .run .isOpen;
   pending = pendingFirst (at .tables .cases) (at .tables .symbols) (at .run .pending);

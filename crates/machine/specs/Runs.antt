@@ -10,7 +10,7 @@ use Rattle.automata.specs.Automaton.{backward}
 use Rattle.machine.specs.System.{System}
 use Rattle.machine.specs.Machine.{Given, Rooms, byStates, Next, goesOn, ends, comesTo, machine}
 use Rattle.machine.specs.Machine.{nonempty, empty, stepsLack, blockersLack, wordLacks}
-use Rattle.machine.specs.Lent.{column, columnBack, maskOf, levelOf, caseOf, symbolOf, placed}
+use Rattle.machine.specs.Lent.{BlockerRoom, columnBack, caseOf, symbolOf, placed, withTable}
 
 -- the backward system of an image: F is its one final case
 abbrev pub systemOf : List ℕ → System
@@ -22,10 +22,9 @@ systemOf image = record {
   backward = λ s X. backward (rowsOf image s) X;
 }
 
--- "A run is lent blocker room (masks, levels), word room (pending cases, symbols)"
+-- "A run is lent blocker room .., word room (pending cases, symbols)"
 pub record Lent : Type 0 where
-  pub masks : List ℕ
-  pub levels : List ℕ
+  pub room : BlockerRoom
   pub cases : List ℕ
   pub symbols : List ℕ
 
@@ -77,8 +76,7 @@ symbolsIn (ends (wordLacks c)) = []
 -- symbol table holds the word from its first place on "hit" .. and 0 elsewhere; the blocker room holds the entries in table order, with 0 after them."
 unfoldable pub tablesAfter : ℕ → ℕ → Lent → Next → Lent
 tablesAfter held waiting lent n = record {
-  masks = placed held (column maskOf (comesTo n .table)) (lent .masks);
-  levels = placed held (column levelOf (comesTo n .table)) (lent .levels);
+  room = withTable held (comesTo n .table) (lent .room);
   cases = placed waiting (casesIn n) (lent .cases);
   symbols = placed waiting (symbolsIn n) (lent .symbols);
 }
@@ -91,17 +89,18 @@ resultOf lent n = record {
   level = comesTo n .level;
   blockers = length (comesTo n .table);
   accepted = comesTo n .accepted;
-  tables = tablesAfter (length (lent .masks)) (length (lent .cases)) lent n;
+  tables = tablesAfter (length (lent .room .masks)) (length (lent .cases)) lent n;
 }
 
--- 30: the two tables of one room differ in length
+-- 30: the tables of one room differ in length; 02, 10: "30 now compares three lengths for blocker room"
 unfoldable pub oddRooms : Lent → Bool
 oddRooms lent =
-    neg (eqb (length (lent .masks)) (length (lent .levels))) or neg (eqb (length (lent .cases)) (length (lent .symbols)))
+    neg (eqb (length (lent .room .masks)) (length (lent .room .levels))) or neg (eqb (length (lent .room .masks)) (length (lent .room .entered)))
+    or neg (eqb (length (lent .cases)) (length (lent .symbols)))
 
 -- 31: a room or the hint table has over 65,536 places
 unfoldable pub oversize : Lent → List ℕ → Bool
-oversize lent hints = ltb 65536 (length (lent .masks)) or ltb 65536 (length (lent .cases)) or ltb 65536 (length hints)
+oversize lent hints = ltb 65536 (length (lent .room .masks)) or ltb 65536 (length (lent .cases)) or ltb 65536 (length hints)
 
 -- the image's checks, then 30, then 31; 0 where none applies
 unfoldable pub checkRooms : Lent → List ℕ → ℕ → ℕ
@@ -113,7 +112,7 @@ checkRun image lent terms = checkRooms lent (terms .hints) (checkImage image)
 
 -- the end of the run of 01's machine on the image, in rooms of so many places
 abbrev pub roomsOf : Lent → Rooms
-roomsOf lent = record { blockers = length (lent .masks); word = length (lent .cases) }
+roomsOf lent = record { blockers = length (lent .room .masks); word = length (lent .cases) }
 
 unfoldable pub endOf : List ℕ → Rooms → Terms → Next
 endOf image rooms terms = machine (systemOf image) rooms (givenOf image terms)

@@ -1,8 +1,9 @@
--- The lines of 01's "Models and what they give" that are marked *, as one list. Assumes nothing: these are definitions.
+-- The lines of 01's "Models and what they give" that are marked *, as one list, with 02's third number of a blocker: "2 for A, 2 for C". Assumes nothing: these are definitions.
 use Prim.Native.Nat.{ℕ}
 use mathlib.Core.Path.{_≡_}
 use mathlib.Core.List.{List, [], _∷_}
 use Rattle.automata.specs.WordTest.{wordTest}
+use Rattle.machine.specs.Lent.{BlockerRoom, roomOf}
 use Rattle.machine.specs.Runs.{Lent, Terms, Result, runOf}
 
 -- the bytes of small numbers in front of more bytes: 8 bytes, a pair, a row
@@ -38,7 +39,7 @@ pub data Line : Type 0 where
 
 -- tables that are lent, with other numbers in them
 abbrev lent : List ℕ → List ℕ → Lent
-lent blockers word = record { masks = blockers; levels = blockers; cases = word; symbols = word }
+lent blockers word = record { room = roomOf blockers blockers blockers; cases = word; symbols = word }
 
 -- hints and an allowance: 256 where the line names none, 4^(n+1) for n 3
 abbrev terms : List ℕ → ℕ → Terms
@@ -50,37 +51,47 @@ three = 9 ∷ 9 ∷ 9 ∷ []
 abbrev none : List ℕ
 none = 0 ∷ 0 ∷ 0 ∷ []
 
--- the five numbers, and the four tables
-abbrev gives : ℕ → ℕ → ℕ → ℕ → ℕ → List ℕ → List ℕ → List ℕ → List ℕ → Result
-gives number steps level blockers accepted masks levels cases symbols = record {
+-- a room with one blocker, one with none, and one without places
+abbrev one : ℕ → ℕ → ℕ → BlockerRoom
+one mask level entered = roomOf (mask ∷ 0 ∷ 0 ∷ []) (level ∷ 0 ∷ 0 ∷ []) (entered ∷ 0 ∷ 0 ∷ [])
+
+abbrev noBlockers : BlockerRoom
+noBlockers = roomOf none none none
+
+abbrev noPlaces : BlockerRoom
+noPlaces = roomOf [] [] []
+
+-- the five numbers, and the five tables
+abbrev gives : ℕ → ℕ → ℕ → ℕ → ℕ → BlockerRoom → List ℕ → List ℕ → Result
+gives number steps level blockers accepted room cases symbols = record {
   number = number;
   steps = steps;
   level = level;
   blockers = blockers;
   accepted = accepted;
-  tables = record { masks = masks; levels = levels; cases = cases; symbols = symbols };
+  tables = record { room = room; cases = cases; symbols = symbols };
 }
 
 unfoldable pub starred : List Line
 starred =
     -- "A: 0 3 1 1 0, frame 4 at level 2."
-    run A (lent three three) (terms [] 256) (gives 0 3 1 1 0 (4 ∷ 0 ∷ 0 ∷ []) (2 ∷ 0 ∷ 0 ∷ []) none none)
+    run A (lent three three) (terms [] 256) (gives 0 3 1 1 0 (one 4 2 2) none none)
     -- "A, allowance 2: 2 2 1 1 0, blocker 4 at level 1."
-    ∷ run A (lent three three) (terms [] 2) (gives 2 2 1 1 0 (4 ∷ 0 ∷ 0 ∷ []) (1 ∷ 0 ∷ 0 ∷ []) none none)
+    ∷ run A (lent three three) (terms [] 2) (gives 2 2 1 1 0 (one 4 1 2) none none)
     -- "A, blocker room 0: 3 1 1 0 0. With allowance 1 as well: 2 1 1 0 0."
-    ∷ run A (lent [] three) (terms [] 256) (gives 3 1 1 0 0 [] [] none none)
-    ∷ run A (lent [] three) (terms [] 1) (gives 2 1 1 0 0 [] [] none none)
+    ∷ run A (lent [] three) (terms [] 256) (gives 3 1 1 0 0 noPlaces none none)
+    ∷ run A (lent [] three) (terms [] 1) (gives 2 1 1 0 0 noPlaces none none)
     -- "A, word room 0: 4 0 0 0 0."
-    ∷ run A (lent three []) (terms [] 256) (gives 4 0 0 0 0 none none [] [])
+    ∷ run A (lent three []) (terms [] 256) (gives 4 0 0 0 0 noBlockers [] [])
     -- "B: 1 2 1 0 0, word 0."
-    ∷ run B (lent three three) (terms [] 256) (gives 1 2 1 0 0 none none none none)
+    ∷ run B (lent three three) (terms [] 256) (gives 1 2 1 0 0 noBlockers none none)
     -- "C: 1 6 2 1 0, word 0 1, blocker 2 at level 1."
-    ∷ run C (lent three three) (terms [] 256) (gives 1 6 2 1 0 (2 ∷ 0 ∷ 0 ∷ []) (1 ∷ 0 ∷ 0 ∷ []) none (0 ∷ 1 ∷ 0 ∷ []))
+    ∷ run C (lent three three) (terms [] 256) (gives 1 6 2 1 0 (one 2 1 2) none (0 ∷ 1 ∷ 0 ∷ []))
     -- "C, hint 6: as without, hint not accepted. Hint 4: 1 6 2 1 1, blocker 4."
-    ∷ run C (lent three three) (terms (6 ∷ []) 256) (gives 1 6 2 1 0 (2 ∷ 0 ∷ 0 ∷ []) (1 ∷ 0 ∷ 0 ∷ []) none (0 ∷ 1 ∷ 0 ∷ []))
-    ∷ run C (lent three three) (terms (4 ∷ []) 256) (gives 1 6 2 1 1 (4 ∷ 0 ∷ 0 ∷ []) (1 ∷ 0 ∷ 0 ∷ []) none (0 ∷ 1 ∷ 0 ∷ []))
+    ∷ run C (lent three three) (terms (6 ∷ []) 256) (gives 1 6 2 1 0 (one 2 1 2) none (0 ∷ 1 ∷ 0 ∷ []))
+    ∷ run C (lent three three) (terms (4 ∷ []) 256) (gives 1 6 2 1 1 (one 4 1 2) none (0 ∷ 1 ∷ 0 ∷ []))
     -- "D, allowance 0: 1 0 0 0 0."
-    ∷ run D (lent three three) (terms [] 0) (gives 1 0 0 0 0 none none none none)
+    ∷ run D (lent three three) (terms [] 0) (gives 1 0 0 0 0 noBlockers none none)
     -- "Word test on C: 0 1 yes; 1 0 no; the empty word no; symbol 2 gives 32."
     ∷ test C (0 ∷ 1 ∷ []) 1
     ∷ test C (1 ∷ 0 ∷ []) 0

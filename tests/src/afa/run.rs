@@ -17,6 +17,8 @@ pub mod interface {
             masks_len: usize,
             levels: *mut u32,
             levels_len: usize,
+            entered: *mut u64,
+            entered_len: usize,
             cases: *mut u64,
             cases_len: usize,
             symbols: *mut u8,
@@ -46,6 +48,8 @@ pub fn run(
             rooms.masks.len(),
             rooms.levels.as_mut_ptr(),
             rooms.levels.len(),
+            rooms.entered.as_mut_ptr(),
+            rooms.entered.len(),
             rooms.cases.as_mut_ptr(),
             rooms.cases.len(),
             rooms.symbols.as_mut_ptr(),
@@ -58,21 +62,21 @@ pub fn run(
     }
 }
 
-/// `afa_run` with four tables and hints of these lengths that may not be touched, for lengths that
+/// `afa_run` with five tables and hints of these lengths that may not be touched, for lengths that
 /// must be refused.
 pub fn run_untouchable(
     image: &[u8],
-    lengths: [usize; 5],
+    lengths: [usize; 6],
     memory: &Untouchable,
     edge: Edge,
     counts: &mut [u64; 4],
 ) -> u64 {
-    let [masks, levels, cases, symbols, hints] = lengths;
+    let [masks, levels, entered, cases, symbols, hints] = lengths;
     let shown = lengths.map(usize::to_be_bytes);
     let lent: [fault::Lent; 2] = [
         ("image", image),
         (
-            "lengths of masks, levels, cases, symbols and hints",
+            "lengths of masks, levels, entered, cases, symbols and hints",
             shown.as_flattened(),
         ),
     ];
@@ -86,6 +90,8 @@ pub fn run_untouchable(
             masks,
             memory.lend(levels, edge),
             levels,
+            memory.lend(entered, edge),
+            entered,
             memory.lend(cases, edge),
             cases,
             memory.lend(symbols, edge),
@@ -106,6 +112,7 @@ pub struct Runner {
     image: ReadOnly,
     masks: Writable,
     levels: Writable,
+    entered: Writable,
     cases: Writable,
     symbols: Writable,
     hints: ReadOnly,
@@ -120,6 +127,7 @@ impl Runner {
             image: ReadOnly::with_room(1 << 18),
             masks: Writable::with_room(PLACES * size_of::<u64>()),
             levels: Writable::with_room(PLACES * size_of::<u32>()),
+            entered: Writable::with_room(PLACES * size_of::<u64>()),
             cases: Writable::with_room(PLACES * size_of::<u64>()),
             symbols: Writable::with_room(PLACES),
             hints: ReadOnly::with_room(PLACES * size_of::<u64>()),
@@ -159,6 +167,7 @@ impl Runner {
         let image = self.image.lend(image, edge);
         let masks = self.masks.lend(&before.masks, edge);
         let levels = self.levels.lend(&before.levels, edge);
+        let entered = self.entered.lend(&before.entered, edge);
         let cases = self.cases.lend(&before.cases, edge);
         let symbols = self.symbols.lend(&before.symbols, edge);
         let hints = self.hints.lend(hints, edge);
@@ -168,6 +177,7 @@ impl Runner {
             let rooms = Rooms {
                 masks: &mut *masks,
                 levels: &mut *levels,
+                entered: &mut *entered,
                 cases: &mut *cases,
                 symbols: &mut *symbols,
             };
@@ -175,7 +185,7 @@ impl Runner {
             let lent: [fault::Lent; 4] = [
                 ("image", image),
                 (
-                    "lengths of masks, levels, cases and symbols",
+                    "lengths of masks, levels, entered, cases and symbols",
                     lengths.as_flattened(),
                 ),
                 ("allowance", &allowance.to_be_bytes()),
@@ -190,6 +200,7 @@ impl Runner {
         let after = Tables {
             masks: masks.to_vec(),
             levels: levels.to_vec(),
+            entered: entered.to_vec(),
             cases: cases.to_vec(),
             symbols: symbols.to_vec(),
         };

@@ -122,8 +122,8 @@ impl Comparison {
             .run(image, &lent.before, &lent.hints, lent.allowance);
         assert!(
             answered.0 == answer && answered.1 == tables,
-            "afa_run\n{origin}\nimage {}\nlengths of masks, levels, cases and symbols {:?}, \
-             allowance {}, {} hints {:x?}\nexpected {answer:?}\n     got {:?}{}",
+            "afa_run\n{origin}\nimage {}\nlengths of masks, levels, entered, cases and symbols \
+             {:?}, allowance {}, {} hints {:x?}\nexpected {answer:?}\n     got {:?}{}",
             hexadecimal(image),
             lent.before.lengths(),
             lent.allowance,
@@ -140,6 +140,7 @@ impl Comparison {
 fn differences(expected: &Tables, got: &Tables) -> String {
     first_difference("mask", &expected.masks, &got.masks)
         + &first_difference("level", &expected.levels, &got.levels)
+        + &first_difference("entered", &expected.entered, &got.entered)
         + &first_difference("case", &expected.cases, &got.cases)
         + &first_difference("symbol", &expected.symbols, &got.symbols)
 }

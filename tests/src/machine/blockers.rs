@@ -1,21 +1,24 @@
-//! Blocker room: two tables of one length, of which the first places are in use.
+//! Blocker room: tables of one length, of which the first places are in use.
 
 use super::automaton::contains;
+use super::entered::EnteredTable;
 use std::ops::Range;
 
-pub struct Blockers<'a> {
+pub struct Blockers<'a, Entered> {
     masks: &'a mut [u64],
     levels: &'a mut [u32],
+    entered: Entered,
     held: usize,
 }
 
-impl<'a> Blockers<'a> {
+impl<'a, Entered: EnteredTable> Blockers<'a, Entered> {
     /// None are held, whatever the tables have in them.
-    pub fn new(masks: &'a mut [u64], levels: &'a mut [u32]) -> Self {
-        assert_eq!(masks.len(), levels.len());
+    pub fn new(masks: &'a mut [u64], levels: &'a mut [u32], entered: Entered) -> Self {
+        assert!(levels.len() == masks.len() && entered.has_length(masks.len()));
         Blockers {
             masks,
             levels,
+            entered,
             held: 0,
         }
     }
@@ -24,7 +27,9 @@ impl<'a> Blockers<'a> {
         self.held == self.masks.len()
     }
 
-    /// Whether the case is a subset of a blocker of this level or more.
+    /// Whether the case is a subset of a blocker of this level or more. Most of a run's time is spent
+    /// here, and less of it while this is a function of its own.
+    #[inline(never)]
     pub fn cover(&self, case: u64, level: u32) -> bool {
         let covers = |mask, its_level| (its_level >= level) & contains(mask, case);
         self.first(0..self.held, covers).is_some()
@@ -40,9 +45,11 @@ impl<'a> Blockers<'a> {
         Some((place, self.masks[place]))
     }
 
-    pub fn enter(&mut self, mask: u64, level: u32) {
+    /// The last of so many steps is the block that makes it.
+    pub fn enter(&mut self, mask: u64, level: u32, steps: u64) {
         self.masks[self.held] = mask;
         self.levels[self.held] = level;
+        self.entered.enter(self.held, steps);
         self.held += 1;
     }
 
@@ -81,10 +88,12 @@ impl<'a> Blockers<'a> {
             let (mask, level) = (self.masks[place], self.levels[place]);
             self.masks[kept] = mask;
             self.levels[kept] = level;
+            self.entered.close_up(place..place + 1, kept);
             kept += usize::from(!leaves(mask, level));
         }
         self.masks.copy_within(places.end..self.held, kept);
         self.levels.copy_within(places.end..self.held, kept);
+        self.entered.close_up(places.end..self.held, kept);
         let left = places.end - kept;
         self.held -= left;
         left
@@ -110,9 +119,10 @@ impl<'a> Blockers<'a> {
     }
 
     /// Clears what is not in use. Answers how many are held.
-    pub fn finish(self) -> usize {
+    pub fn finish(mut self) -> usize {
         self.masks[self.held..].fill(0);
         self.levels[self.held..].fill(0);
+        self.entered.clear(self.held);
         self.held
     }
 }

@@ -1,6 +1,7 @@
 use borrow.Author.Needs.{needs}
 use Prim.Native.Nat.{_-_}
-use Rattle.blockers.proofs.Closing.{ClearingBoth, clear-starts, clear-goes, clear-ends}
+use Rattle.machine.specs.Lent.{roomOf}
+use Rattle.blockers.proofs.Closing.{Clearing, clear-starts, clear-goes, clear-ends}
 use Rattle.blockers.proofs.clear.Statement.{statement}
 use Rattle.blockers.proofs.clear.Tie as tie
 use Rattle.blockers.proofs.clear.Reads as reads
@@ -8,10 +9,10 @@ use Rattle.blockers.proofs.clear.Lts as lts
 use Rattle.blockers.proofs.put.Reads as put-reads
 
 abbrev Inv-loop : tie.InvT-loop
-Inv-loop masks₀ levels₀ from to i₀ masks levels i = ClearingBoth from to i masks₀ levels₀ masks levels
+Inv-loop masks₀ levels₀ entered₀ from to i₀ masks levels entered i = Clearing from to i (roomOf masks₀ levels₀ entered₀) (roomOf masks levels entered)
 
 abbrev μ-loop : tie.MeasureT-loop
-μ-loop masks₀ levels₀ from to i₀ masks levels i = to - i
+μ-loop masks₀ levels₀ entered₀ from to i₀ masks levels entered i = to - i
 
 loop-holds : tie.Need-loop-holds Inv-loop μ-loop
 loop-holds c = search (clear-starts, needs)
@@ -34,6 +35,9 @@ same-length c = search needs
 same-length-2 : tie.Need-same-length-2 Inv-loop μ-loop
 same-length-2 c = search needs
 
+same-length-3 : tie.Need-same-length-3 Inv-loop μ-loop
+same-length-3 c = search needs
+
 returns : tie.Need-returns Inv-loop μ-loop
 returns c = search (clear-ends, needs)
 
@@ -50,4 +54,5 @@ clear-spec =
     loop-again
     same-length
     same-length-2
+    same-length-3
     returns)

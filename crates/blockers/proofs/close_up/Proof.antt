@@ -1,5 +1,6 @@
 use borrow.Author.Needs.{needs}
 use Prim.Native.Nat.{_-_}
+use Rattle.machine.specs.Lent.{roomOf, blockerOf}
 use Rattle.blockers.proofs.Closing.{ClosingUp, close-starts, close-leaves, close-stands, close-stays, close-ends}
 use Rattle.blockers.proofs.close_up.Statement.{statement}
 use Rattle.blockers.proofs.close_up.Tie as tie
@@ -10,11 +11,10 @@ use Rattle.blockers.proofs.covers.Reads as covers-reads
 use Rattle.blockers.proofs.put.Reads as put-reads
 
 abbrev Inv-loop : tie.InvT-loop
-Inv-loop masks₀ levels₀ start from to mask level kept₀ i₀ masks levels kept i =
-    ClosingUp (record { mask = mask; level = level .0 }) start from to masks₀ levels₀ kept i masks levels
+Inv-loop masks₀ levels₀ entered₀ start from to mask level kept₀ i₀ masks levels entered kept i = ClosingUp (blockerOf mask (level .0)) start from to (roomOf masks₀ levels₀ entered₀) kept i (roomOf masks levels entered)
 
 abbrev μ-loop : tie.MeasureT-loop
-μ-loop masks₀ levels₀ start from to mask level kept₀ i₀ masks levels kept i = to - i
+μ-loop masks₀ levels₀ entered₀ start from to mask level kept₀ i₀ masks levels entered kept i = to - i
 
 loop-holds : tie.Need-loop-holds Inv-loop μ-loop
 loop-holds c = search (close-starts, needs)
@@ -25,11 +25,11 @@ mul-old c = search needs
 slice-read-old : tie.Need-slice-read-old Inv-loop μ-loop
 slice-read-old c = search needs
 
-mul-t13 : tie.Need-mul-t13 Inv-loop μ-loop
-mul-t13 c = search needs
+mul-t15 : tie.Need-mul-t15 Inv-loop μ-loop
+mul-t15 c = search needs
 
-slice-read-t17 : tie.Need-slice-read-t17 Inv-loop μ-loop
-slice-read-t17 c = search needs
+slice-read-t19 : tie.Need-slice-read-t19 Inv-loop μ-loop
+slice-read-t19 c = search needs
 
 covers-requires : tie.Need-covers-requires Inv-loop μ-loop
 covers-requires c κs = search needs
@@ -55,6 +55,12 @@ loop-less-2 c = search needs
 loop-again-2 : tie.Need-loop-again-2 Inv-loop μ-loop
 loop-again-2 c = search (close-stands, needs)
 
+mul-step : tie.Need-mul-step Inv-loop μ-loop
+mul-step c = search needs
+
+slice-read-step : tie.Need-slice-read-step Inv-loop μ-loop
+slice-read-step c = search needs
+
 put-requires : tie.Need-put-requires Inv-loop μ-loop
 put-requires c κs = search needs
 
@@ -68,7 +74,7 @@ loop-less-3 : tie.Need-loop-less-3 Inv-loop μ-loop
 loop-less-3 c = search needs
 
 loop-again-3 : tie.Need-loop-again-3 Inv-loop μ-loop
-loop-again-3 c = search (close-stays, needs)
+loop-again-3 c = search (close-stays (c .before .before .before .before .before .before .before .before .before .before .before .before .before .before .before .before .before .loop .inv), c .before .before .before .before .before .before .put .ensures, needs)
 
 clear-requires : tie.Need-clear-requires Inv-loop μ-loop
 clear-requires c κs = search needs
@@ -78,6 +84,9 @@ same-length c = search needs
 
 same-length-2 : tie.Need-same-length-2 Inv-loop μ-loop
 same-length-2 c = search needs
+
+same-length-3 : tie.Need-same-length-3 Inv-loop μ-loop
+same-length-3 c = search needs
 
 returns : tie.Need-returns Inv-loop μ-loop
 returns c = search (close-ends, needs)
@@ -91,8 +100,8 @@ close-up-spec =
     loop-holds
     mul-old
     slice-read-old
-    mul-t13
-    slice-read-t17
+    mul-t15
+    slice-read-t19
     covers-requires
     add-i
     loop-less
@@ -101,6 +110,8 @@ close-up-spec =
     add-i-2
     loop-less-2
     loop-again-2
+    mul-step
+    slice-read-step
     put-requires
     add-kept-2
     add-i-3
@@ -109,4 +120,5 @@ close-up-spec =
     clear-requires
     same-length
     same-length-2
+    same-length-3
     returns)

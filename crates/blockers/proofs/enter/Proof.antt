@@ -1,4 +1,4 @@
-use Rattle.blockers.proofs.Changes.{enter-full, enter-held}
+use Rattle.blockers.proofs.Changes.{enter-full, enter-room, enter-held}
 use borrow.Author.Needs.{needs}
 use Rattle.blockers.proofs.enter.Statement.{statement}
 use Rattle.blockers.proofs.enter.Tie as tie
@@ -16,20 +16,26 @@ same-length c = search needs
 same-length-2 : tie.Need-same-length-2
 same-length-2 c = search needs
 
+same-length-3 : tie.Need-same-length-3
+same-length-3 c = search needs
+
 returns : tie.Need-returns
 returns c = search (enter-full, needs)
 
 put-requires : tie.Need-put-requires
-put-requires c κs = search needs
+put-requires c κs = search (enter-room, needs)
 
-add-t11 : tie.Need-add-t11
-add-t11 c = search needs
-
-same-length-3 : tie.Need-same-length-3
-same-length-3 c = search needs
+add-t15 : tie.Need-add-t15
+add-t15 c = search needs
 
 same-length-4 : tie.Need-same-length-4
 same-length-4 c = search needs
+
+same-length-5 : tie.Need-same-length-5
+same-length-5 c = search needs
+
+same-length-6 : tie.Need-same-length-6
+same-length-6 c = search needs
 
 returns-2 : tie.Need-returns-2
 returns-2 c = search (enter-held, needs)
@@ -41,9 +47,11 @@ enter-spec =
     close-up-requires
     same-length
     same-length-2
+    same-length-3
     returns
     put-requires
-    add-t11
-    same-length-3
+    add-t15
     same-length-4
+    same-length-5
+    same-length-6
     returns-2)

@@ -15,8 +15,11 @@ same-length c = search needs
 same-length-2 : tie.Need-same-length-2
 same-length-2 c = search needs
 
+same-length-3 : tie.Need-same-length-3
+same-length-3 c = search needs
+
 returns : tie.Need-returns
-returns c = search (framed, c .before .before .before .before .before .before .before .before .slice-known .given, needs)
+returns c = search (framed, c .before .before .before .before .before .before .before .before .before .before .before .before .slice-known .given, needs)
 
 pub frame-spec : {M : Type 1} → statement M
-frame-spec = tie.close (tie.spec close-up-requires same-length same-length-2 returns)
+frame-spec = tie.close (tie.spec close-up-requires same-length same-length-2 same-length-3 returns)

@@ -33,17 +33,23 @@ same-length c = search needs
 same-length-2 : tie.Need-same-length-2
 same-length-2 c = search needs
 
+same-length-3 : tie.Need-same-length-3
+same-length-3 c = search needs
+
 returns : tie.Need-returns
 returns c = search (closes-full, needs)
 
 frame-requires : tie.Need-frame-requires
 frame-requires c κs = search needs
 
-same-length-3 : tie.Need-same-length-3
-same-length-3 c = search needs
-
 same-length-4 : tie.Need-same-length-4
 same-length-4 c = search needs
+
+same-length-5 : tie.Need-same-length-5
+same-length-5 c = search needs
+
+same-length-6 : tie.Need-same-length-6
+same-length-6 c = search needs
 
 returns-2 : tie.Need-returns-2
 returns-2 c = search (closes-empty, needs)
@@ -60,8 +66,10 @@ close-spec =
     enum-told
     same-length
     same-length-2
+    same-length-3
     returns
     frame-requires
-    same-length-3
     same-length-4
+    same-length-5
+    same-length-6
     returns-2)

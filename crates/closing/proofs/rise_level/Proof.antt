@@ -1,5 +1,6 @@
 use borrow.Author.Needs.{needs}
 use Prim.Native.Nat.{_-_}
+use Rattle.machine.specs.Lent.{roomOf}
 use Rattle.machine.specs.Runs.{systemOf}
 use Rattle.blockers.proofs.Parts.{part-masks, part-levels, part-paired, part-place}
 use Rattle.closing.proofs.Along.{Walked, walk-starts, rises-exactly, walk-passes, walk-rises, walk-ends}
@@ -11,11 +12,10 @@ use Rattle.blockers.proofs.rise.Reads as rise-reads
 use Rattle.choices.proofs.rises.Reads as rises-reads
 
 abbrev Inv-loop : tie.InvT-loop
-Inv-loop image head masks₀ levels₀ held level count₀ place₀ masks levels count place =
-    Walked (systemOf image) masks₀ levels₀ held (level .0) count place masks levels
+Inv-loop image head masks₀ levels₀ entered₀ held level count₀ place₀ masks levels entered count place = Walked (systemOf image) (roomOf masks₀ levels₀ entered₀) held (level .0) count place (roomOf masks levels entered)
 
 abbrev μ-loop : tie.MeasureT-loop
-μ-loop image head masks₀ levels₀ held level count₀ place₀ masks levels count place = count - place
+μ-loop image head masks₀ levels₀ entered₀ held level count₀ place₀ masks levels entered count place = count - place
 
 loop-holds : tie.Need-loop-holds Inv-loop μ-loop
 loop-holds c = search (walk-starts, needs)
@@ -62,6 +62,9 @@ same-length c = search needs
 same-length-2 : tie.Need-same-length-2 Inv-loop μ-loop
 same-length-2 c = search needs
 
+same-length-3 : tie.Need-same-length-3 Inv-loop μ-loop
+same-length-3 c = search needs
+
 returns : tie.Need-returns Inv-loop μ-loop
 returns c = search (walk-ends, needs)
 
@@ -86,4 +89,5 @@ rise-level-spec =
     loop-again-2
     same-length
     same-length-2
+    same-length-3
     returns)

@@ -1,5 +1,6 @@
 use borrow.Author.Needs.{needs}
 use Prim.Native.Nat.{_+_, _-_}
+use Rattle.machine.specs.Lent.{roomOf}
 use Rattle.machine.specs.Runs.{systemOf}
 use Rattle.closing.proofs.Levels.{level-fits, level-nears, LevelsRisen, levels-start, levels-go, levels-end}
 use Rattle.closing.proofs.rise_levels.Statement.{statement}
@@ -11,11 +12,10 @@ use Rattle.blockers.proofs.Level.is_at_most.Reads as is-at-most-reads
 use Rattle.closing.proofs.rise_level.Reads as rise-level-reads
 
 abbrev Inv-loop : tie.InvT-loop
-Inv-loop image head masks₀ levels₀ held top count₀ level₀ masks levels count level =
-    LevelsRisen (systemOf image) masks₀ levels₀ held (top .0) count (level .0) masks levels
+Inv-loop image head masks₀ levels₀ entered₀ held top count₀ level₀ masks levels entered count level = LevelsRisen (systemOf image) (roomOf masks₀ levels₀ entered₀) held (top .0) count (level .0) (roomOf masks levels entered)
 
 abbrev μ-loop : tie.MeasureT-loop
-μ-loop image head masks₀ levels₀ held top count₀ level₀ masks levels count level = (top .0 + 1) - level .0
+μ-loop image head masks₀ levels₀ entered₀ held top count₀ level₀ masks levels entered count level = (top .0 + 1) - level .0
 
 loop-holds : tie.Need-loop-holds Inv-loop μ-loop
 loop-holds c = search (levels-start, needs)
@@ -41,6 +41,9 @@ same-length c = search needs
 same-length-2 : tie.Need-same-length-2 Inv-loop μ-loop
 same-length-2 c = search needs
 
+same-length-3 : tie.Need-same-length-3 Inv-loop μ-loop
+same-length-3 c = search needs
+
 returns : tie.Need-returns Inv-loop μ-loop
 returns c = search (levels-end, needs)
 
@@ -58,4 +61,5 @@ rise-levels-spec =
     loop-again
     same-length
     same-length-2
+    same-length-3
     returns)

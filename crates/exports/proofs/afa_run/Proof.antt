@@ -9,8 +9,8 @@ use Rattle.checker.proofs.run.run.Reads as run-reads
 run-requires : tie.Need-run-requires
 run-requires c κs = search needs
 
-cast-t18 : tie.Need-cast-t18
-cast-t18 c = search needs
+cast-t21 : tie.Need-cast-t21
+cast-t21 c = search needs
 
 same-length : tie.Need-same-length
 same-length c = search needs
@@ -24,9 +24,21 @@ same-length-3 c = search needs
 same-length-4 : tie.Need-same-length-4
 same-length-4 c = search needs
 
+same-length-5 : tie.Need-same-length-5
+same-length-5 c = search needs
+
 returns : tie.Need-returns
 returns c = search (ran-is, needs)
 
 pub afa-run-spec : {M : Type 1} → statement M
 afa-run-spec =
-    tie.close (tie.spec run-requires cast-t18 same-length same-length-2 same-length-3 same-length-4 returns)
+    tie.close
+    (tie.spec
+    run-requires
+    cast-t21
+    same-length
+    same-length-2
+    same-length-3
+    same-length-4
+    same-length-5
+    returns)

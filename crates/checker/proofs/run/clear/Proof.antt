@@ -25,6 +25,9 @@ same-length-3 c = search needs
 same-length-4 : tie.Need-same-length-4
 same-length-4 c = search needs
 
+same-length-5 : tie.Need-same-length-5
+same-length-5 c = search needs
+
 returns : tie.Need-returns
 returns c = search (cleared-is, needs)
 
@@ -38,4 +41,5 @@ clear-spec =
     same-length-2
     same-length-3
     same-length-4
+    same-length-5
     returns)

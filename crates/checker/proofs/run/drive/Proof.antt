@@ -1,4 +1,5 @@
 use borrow.Author.Needs.{needs}
+use Rattle.machine.specs.Lent.{roomOf}
 use Rattle.checker.specs.Stage.{lentOf, termsOf}
 use Rattle.checker.proofs.Going.{remaining, Driven, drive-starts, drive-read, drive-ready, drive-goes, drive-less, drive-ends}
 use Rattle.checker.proofs.run.drive.Statement.{statement}
@@ -9,10 +10,10 @@ use Rattle.checker.proofs.run.begin.Reads as begin-reads
 use Rattle.checker.proofs.steps.step.Reads as step-reads
 
 abbrev Inv-loop : tie.InvT-loop
-Inv-loop image head masks₀ levels₀ cases₀ symbols₀ hints allowance run₀ masks levels cases symbols run = Driven image head (lentOf masks₀ levels₀ cases₀ symbols₀) (termsOf hints allowance) masks levels cases symbols run
+Inv-loop image head masks₀ levels₀ entered₀ cases₀ symbols₀ hints allowance run₀ masks levels entered cases symbols run = Driven image head (lentOf (roomOf masks₀ levels₀ entered₀) cases₀ symbols₀) (termsOf hints allowance) (roomOf masks levels entered) cases symbols run
 
 abbrev μ-loop : tie.MeasureT-loop
-μ-loop image head masks₀ levels₀ cases₀ symbols₀ hints allowance run₀ masks levels cases symbols run = remaining allowance (run .answer) (run .steps)
+μ-loop image head masks₀ levels₀ entered₀ cases₀ symbols₀ hints allowance run₀ masks levels entered cases symbols run = remaining allowance (run .answer) (run .steps)
 
 begin-requires : tie.Need-begin-requires Inv-loop μ-loop
 begin-requires c κs = search needs
@@ -24,7 +25,7 @@ step-requires : tie.Need-step-requires Inv-loop μ-loop
 step-requires c κs = (search (drive-read, needs), search (drive-ready, needs))
 
 loop-less : tie.Need-loop-less Inv-loop μ-loop
-loop-less c = drive-less (c .before .before .before .before .before .before .before .before .before .before .before .before .before .before .before .loop .inv) (search needs) (c .before .before .before .before .before .before .before .before .step .ensures)
+loop-less c = drive-less (c .before .before .before .before .before .before .before .before .before .before .before .before .before .before .before .before .before .before .loop .inv) (search needs) (c .before .before .before .before .before .before .before .before .before .before .step .ensures)
 
 loop-again : tie.Need-loop-again Inv-loop μ-loop
 loop-again c = search (drive-goes, needs)
@@ -40,6 +41,9 @@ same-length-3 c = search needs
 
 same-length-4 : tie.Need-same-length-4 Inv-loop μ-loop
 same-length-4 c = search needs
+
+same-length-5 : tie.Need-same-length-5 Inv-loop μ-loop
+same-length-5 c = search needs
 
 returns : tie.Need-returns Inv-loop μ-loop
 returns c = search (drive-ends, needs)
@@ -59,4 +63,5 @@ drive-spec =
     same-length-2
     same-length-3
     same-length-4
+    same-length-5
     returns)

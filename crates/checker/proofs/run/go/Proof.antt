@@ -18,10 +18,10 @@ count-up-requires : tie.Need-count-up-requires
 count-up-requires c κs = search needs
 
 same-length : tie.Need-same-length
-same-length c = search needs
+same-length c = search (c .before .before .before .before .before .before .before .before .before .before .before .before .before .before .before .before .before .before .before .before .before .before .before .before .before .before .masks .given, needs)
 
 same-length-2 : tie.Need-same-length-2
-same-length-2 c = search needs
+same-length-2 c = search (c .before .before .before .before .before .before .before .before .before .before .before .before .before .before .before .before .before .before .before .before .before .before .before .before .levels .given, needs)
 
 same-length-3 : tie.Need-same-length-3
 same-length-3 c = search needs
@@ -29,8 +29,11 @@ same-length-3 c = search needs
 same-length-4 : tie.Need-same-length-4
 same-length-4 c = search needs
 
+same-length-5 : tie.Need-same-length-5
+same-length-5 c = search needs
+
 returns : tie.Need-returns
-returns c = go-is (c .before .before .before .before .before .before .before .before .before .before .before .before .before .before .before .before .before .before .before .before .before .before .before .before .before .before .before .before .before .before .before .before .before .pre) (c .before .before .before .before .before .before .before .before .before .before .before .before .before .before .before .before .before .before .before .before .before .before .clear .ensures) _ _ (c .count-up .ensures) (c .before .before .before .before .before .before .before .before .before .drive .ensures)
+returns c = go-is (c .before .before .before .before .before .before .before .before .before .before .before .before .before .before .before .before .before .before .before .before .before .before .before .before .before .before .before .before .before .before .before .before .before .before .before .before .before .before .before .before .pre) (c .before .before .before .before .before .before .before .before .before .before .before .before .before .before .before .before .before .before .before .before .before .before .before .before .before .before .before .clear .ensures) _ _ (c .count-up .ensures) (c .before .before .before .before .before .before .before .before .before .before .before .drive .ensures)
 
 pub go-spec : {M : Type 1} → statement M
 go-spec =
@@ -43,4 +46,5 @@ go-spec =
     same-length-2
     same-length-3
     same-length-4
+    same-length-5
     returns)

@@ -42,17 +42,17 @@ same-length-3 c = search needs
 same-length-4 : tie.Need-same-length-4
 same-length-4 c = search needs
 
+same-length-5 : tie.Need-same-length-5
+same-length-5 c = search needs
+
 returns : tie.Need-returns
-returns c = run-refuses-rooms _ _ _ _ _ _ _ _ (c .before .before .before .before .before .before .before .before .before .before .read-image .ensures) _ (c .before .before .before .before .before .before .before .before .head .given .1) _ (c .before .before .check-rooms .ensures) _ (search needs) (c .refuse2 .ensures)
+returns c = run-refuses-rooms _ _ _ _ _ _ _ (c .before .before .before .before .before .before .before .before .before .before .before .read-image .ensures) _ (c .before .before .before .before .before .before .before .before .before .head .given .1) _ (c .before .before .check-rooms .ensures) _ (search needs) (c .refuse2 .ensures)
 
 go-requires : tie.Need-go-requires
-go-requires c κs = run-runnable _ _ _ _ _ _ _ (c .before .before .before .before .before .before .before .before .before .before .before .before .before .read-image .ensures) _ (c .before .before .before .before .before .before .before .before .before .before .before .head .given .1) _ (c .before .before .before .before .before .check-rooms .ensures) (search needs)
+go-requires c κs = run-runnable _ _ _ _ _ _ (c .before .before .before .before .before .before .before .before .before .before .before .before .before .before .before .read-image .ensures) _ (c .before .before .before .before .before .before .before .before .before .before .before .before .before .head .given .1) _ (c .before .before .before .before .before .before .check-rooms .ensures) (search needs)
 
 returns-2 : tie.Need-returns-2
 returns-2 c = search (run-refuses-image, needs)
-
-same-length-5 : tie.Need-same-length-5
-same-length-5 c = search needs
 
 same-length-6 : tie.Need-same-length-6
 same-length-6 c = search needs
@@ -62,6 +62,12 @@ same-length-7 c = search needs
 
 same-length-8 : tie.Need-same-length-8
 same-length-8 c = search needs
+
+same-length-9 : tie.Need-same-length-9
+same-length-9 c = search needs
+
+same-length-10 : tie.Need-same-length-10
+same-length-10 c = search needs
 
 returns-3 : tie.Need-returns-3
 returns-3 c = search (run-goes, needs)
@@ -81,11 +87,13 @@ run-spec =
     same-length-2
     same-length-3
     same-length-4
+    same-length-5
     returns
     go-requires
     returns-2
-    same-length-5
     same-length-6
     same-length-7
     same-length-8
+    same-length-9
+    same-length-10
     returns-3)

@@ -8,27 +8,24 @@ use Rattle.checker.proofs.record.Run.counted.Reads as counted-reads
 use Rattle.checker.proofs.steps.working_unless.Reads as working-unless-reads
 use Rattle.closing.proofs.close.Reads as close-reads
 
--- src/steps.rt:288:9
 close-requires : tie.Need-close-requires
 close-requires c κs = search needs
 
--- src/steps.rt:289:33
 working-unless-requires : tie.Need-working-unless-requires
 working-unless-requires c κs = search needs
 
--- src/steps.rt:289:9
 counted-requires : tie.Need-counted-requires
 counted-requires c κs = search needs
 
--- src/steps.rt:283:1
 same-length : tie.Need-same-length
 same-length c = search needs
 
--- src/steps.rt:283:1
 same-length-2 : tie.Need-same-length-2
 same-length-2 c = search needs
 
--- src/steps.rt:283:1
+same-length-3 : tie.Need-same-length-3
+same-length-3 c = search needs
+
 returns : tie.Need-returns
 returns c = search (close-leaves, needs)
 
@@ -41,4 +38,5 @@ close-level-spec =
     counted-requires
     same-length
     same-length-2
+    same-length-3
     returns)

@@ -8,39 +8,30 @@ use Rattle.checker.proofs.steps.find_word.Reads as find-word-reads
 use Rattle.checker.proofs.steps.pend_more.Reads as pend-more-reads
 use Rattle.masks.proofs.subset.Reads as subset-reads
 
--- src/steps.rt:139:8
 subset-requires : tie.Need-subset-requires
 subset-requires c κs = search needs
 
--- src/steps.rt:140:9
 find-word-requires : tie.Need-find-word-requires
 find-word-requires c κs = search needs
 
--- src/steps.rt:140:9
 same-length : tie.Need-same-length
 same-length c = search needs
 
--- src/steps.rt:140:9
 same-length-2 : tie.Need-same-length-2
 same-length-2 c = search needs
 
--- src/steps.rt:140:9
 returns : tie.Need-returns
 returns c = search (extend-finds, needs)
 
--- src/steps.rt:142:5
 pend-more-requires : tie.Need-pend-more-requires
 pend-more-requires c κs = (search (extend-room, needs), search needs)
 
--- src/steps.rt:128:1
 same-length-3 : tie.Need-same-length-3
 same-length-3 c = search needs
 
--- src/steps.rt:128:1
 same-length-4 : tie.Need-same-length-4
 same-length-4 c = search needs
 
--- src/steps.rt:128:1
 returns-2 : tie.Need-returns-2
 returns-2 c = search (extend-pends, needs)
 

@@ -1,5 +1,4 @@
 use Rattle.blockers.proofs.Parts.{part-masks, part-levels}
-use Rattle.checker.proofs.Stages.{ready-holds}
 use Rattle.checker.proofs.Opening.{open-lacks, open-room, open-goes}
 use borrow.Author.Needs.{needs}
 use Rattle.checker.proofs.steps.open_level.Statement.{statement}
@@ -11,55 +10,42 @@ use Rattle.checker.proofs.record.Run.counted.Reads as counted-reads
 use Rattle.checker.proofs.steps.pend_final.Reads as pend-final-reads
 use Rattle.checker.proofs.steps.stop.Reads as stop-reads
 
--- src/steps.rt:88:23
 cast-if1 : tie.Need-cast-if1
 cast-if1 c = search needs
 
--- src/steps.rt:89:9
 stop-requires : tie.Need-stop-requires
 stop-requires c κs = search needs
 
--- src/steps.rt:89:9
 same-length : tie.Need-same-length
 same-length c = search needs
 
--- src/steps.rt:89:9
 same-length-2 : tie.Need-same-length-2
 same-length-2 c = search needs
 
--- src/steps.rt:89:9
 returns : tie.Need-returns
 returns c = search (open-lacks, needs)
 
--- src/steps.rt:91:9
 above-requires : tie.Need-above-requires
 above-requires c κs = search needs
 
--- src/steps.rt:96:9
 slice-aggregate-pend-final : tie.Need-slice-aggregate-pend-final
-slice-aggregate-pend-final c = search (part-masks, ready-holds, needs)
+slice-aggregate-pend-final c = search (part-masks, needs)
 
--- src/steps.rt:97:9
 slice-aggregate-pend-final-2 : tie.Need-slice-aggregate-pend-final-2
-slice-aggregate-pend-final-2 c = search (part-levels, ready-holds, needs)
+slice-aggregate-pend-final-2 c = search (part-levels, needs)
 
--- src/steps.rt:93:9
 pend-final-requires : tie.Need-pend-final-requires
 pend-final-requires c κs = search (open-room, needs)
 
--- src/steps.rt:102:9
 counted-requires : tie.Need-counted-requires
 counted-requires c κs = search needs
 
--- src/steps.rt:75:1
 same-length-3 : tie.Need-same-length-3
 same-length-3 c = search needs
 
--- src/steps.rt:75:1
 same-length-4 : tie.Need-same-length-4
 same-length-4 c = search needs
 
--- src/steps.rt:75:1
 returns-2 : tie.Need-returns-2
 returns-2 c = search (open-goes, needs)
 

@@ -6,23 +6,18 @@ use Rattle.checker.proofs.steps.pend_after.Reads as reads
 use Rattle.checker.proofs.steps.pend_after.Lts as lts
 use Rattle.checker.proofs.steps.pend_final.Reads as pend-final-reads
 
--- src/steps.rt:69:9
 pend-final-requires : tie.Need-pend-final-requires
 pend-final-requires c κs = search needs
 
--- src/steps.rt:69:9
 same-length : tie.Need-same-length
 same-length c = search needs
 
--- src/steps.rt:69:9
 same-length-2 : tie.Need-same-length-2
 same-length-2 c = search needs
 
--- src/steps.rt:69:9
 returns : tie.Need-returns
 returns c = search (after-none, needs)
 
--- src/steps.rt:55:1
 returns-2 : tie.Need-returns-2
 returns-2 c = search (after-some, needs)
 

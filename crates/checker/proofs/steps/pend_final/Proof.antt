@@ -7,27 +7,21 @@ use Rattle.checker.proofs.steps.pend_final.Lts as lts
 use Rattle.choices.proofs.blocked.Reads as blocked-reads
 use Rattle.pending.proofs.push.Reads as push-reads
 
--- src/steps.rt:47:8
 blocked-requires : tie.Need-blocked-requires
 blocked-requires c κs = search needs
 
--- src/steps.rt:48:9
 returns : tie.Need-returns
 returns c = search (final-blocked, needs)
 
--- src/steps.rt:50:5
 push-requires : tie.Need-push-requires
 push-requires c κs = search needs
 
--- src/steps.rt:35:1
 same-length : tie.Need-same-length
 same-length c = search needs
 
--- src/steps.rt:35:1
 same-length-2 : tie.Need-same-length-2
 same-length-2 c = search needs
 
--- src/steps.rt:35:1
 returns-2 : tie.Need-returns-2
 returns-2 c = search (final-free, needs)
 

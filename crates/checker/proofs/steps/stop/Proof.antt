@@ -7,23 +7,18 @@ use Rattle.checker.proofs.steps.stop.Lts as lts
 use Rattle.checker.proofs.record.Run.left.Reads as left-reads
 use Rattle.pending.proofs.clear.Reads as clear-reads
 
--- src/steps.rt:30:5
 clear-requires : tie.Need-clear-requires
 clear-requires c κs = search needs
 
--- src/steps.rt:31:5
 left-requires : tie.Need-left-requires
 left-requires c κs = search needs
 
--- src/steps.rt:26:1
 same-length : tie.Need-same-length
 same-length c = search needs
 
--- src/steps.rt:26:1
 same-length-2 : tie.Need-same-length-2
 same-length-2 c = search needs
 
--- src/steps.rt:26:1
 returns : tie.Need-returns
 returns c = search (stop-is, needs)
 

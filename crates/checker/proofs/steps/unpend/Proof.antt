@@ -9,39 +9,30 @@ use Rattle.checker.proofs.record.Run.blocked.Reads as blocked-reads
 use Rattle.checker.proofs.steps.pend_after.Reads as pend-after-reads
 use Rattle.pending.proofs.pop.Reads as pop-reads
 
--- src/steps.rt:160:16
 sub-rest : tie.Need-sub-rest
 sub-rest c = search needs
 
--- src/steps.rt:161:5
 pop-requires : tie.Need-pop-requires
 pop-requires c κs = search needs
 
--- src/steps.rt:166:9
 slice-aggregate-pend-after : tie.Need-slice-aggregate-pend-after
 slice-aggregate-pend-after c = search (part-masks, needs)
 
--- src/steps.rt:167:9
 slice-aggregate-pend-after-2 : tie.Need-slice-aggregate-pend-after-2
 slice-aggregate-pend-after-2 c = search (part-levels, needs)
 
--- src/steps.rt:163:9
 pend-after-requires : tie.Need-pend-after-requires
 pend-after-requires c κs = search needs
 
--- src/steps.rt:173:5
 blocked-requires : tie.Need-blocked-requires
 blocked-requires c κs = search needs
 
--- src/steps.rt:146:1
 same-length : tie.Need-same-length
 same-length c = search needs
 
--- src/steps.rt:146:1
 same-length-2 : tie.Need-same-length-2
 same-length-2 c = search needs
 
--- src/steps.rt:146:1
 returns : tie.Need-returns
 returns c = search (unpend-is, needs)
 

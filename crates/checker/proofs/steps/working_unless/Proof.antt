@@ -5,11 +5,9 @@ use Rattle.checker.proofs.steps.working_unless.Tie as tie
 use Rattle.checker.proofs.steps.working_unless.Reads as reads
 use Rattle.checker.proofs.steps.working_unless.Lts as lts
 
--- src/steps.rt:278:1
 returns : tie.Need-returns
 returns c = search (answer-empty, needs)
 
--- src/steps.rt:278:1
 returns-2 : tie.Need-returns-2
 returns-2 c = search (answer-works, needs)
 

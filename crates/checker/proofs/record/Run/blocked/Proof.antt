@@ -6,19 +6,15 @@ use Rattle.checker.proofs.record.Run.blocked.Reads as reads
 use Rattle.checker.proofs.record.Run.blocked.Lts as lts
 use Rattle.checker.proofs.record.Run.counted.Reads as counted-reads
 
--- src/record.rt:48:13
 counted-requires : tie.Need-counted-requires
 counted-requires c κs = search needs
 
--- src/record.rt:50:23
 add-next : tie.Need-add-next
 add-next c = search needs
 
--- src/record.rt:51:25
 add-next-2 : tie.Need-add-next-2
 add-next-2 c = search needs
 
--- src/record.rt:44:5
 returns : tie.Need-returns
 returns c = search (blocked-is, needs)
 
