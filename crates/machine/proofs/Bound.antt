@@ -85,8 +85,9 @@ module _ {S : System} (lawful : Lawful S) where
   bounded-goes sound (extending s k t u) extended h e l m = omega (arith, ap shut e)
   bounded-goes {given} sound {c = c} (blocking {p = p} {rest = rest} f) (roomToBlock k) h e l m =
       let passing = chosen-passes sound (unqualified-passes h f) (chosen-is S given c (under c rest) (p .case)) in
-      let Y : Blocker = entering (c .level) rest (chosen S given c (under c rest) (p .case) .mask) (suc (c .steps)) in
-      omega (arith, ap shut e, block-more h (suc (c .steps)) passing (omega arith), after-length S (placed (c .table) Y []) (c .level) rest)
+      let new : List Blocker = madeBy (blockStep (S .initial) (S .finals) c rest (under c rest) (chosen S given c (under c rest) (p .case))) .table in
+      let more : blockedPairs S (c .table) < blockedPairs S new = block-more h _ passing (omega arith) in
+      omega (arith, ap shut e, more, after-length S new (c .level) rest)
   bounded-goes sound {c = c} (closing q) closed h e l m =
       let grown = levels-grown (c .level) 1 (omega arith) (h .kept) in
       omega (arith, levels-held (closedTable S c) (c .level) q, few-blockers lawful (grown .kept), pairs-monotone S (grown .grows))

@@ -100,11 +100,11 @@ order-left before by (stays {after = after} {old = old} e k) o =
     (omega (arith, o .0), omega (arith, o .1), order-left (after .entered) by k (subst (λ (x : ℕ). EnteredInOrder x by old) e (o .2)))
 
 -- and where one enters later than all
-order-last : {before by : ℕ} (table : List Blocker) (Y : Blocker) → before < Y .entered → by < Y .entered → EnteredInOrder before by table
-    → EnteredInOrder before (Y .entered) (table ++ Y ∷ [])
+order-last : {before by by′ : ℕ} (table : List Blocker) (Y : Blocker) → before < Y .entered → by < Y .entered → Y .entered ≤ by′
+    → EnteredInOrder before by table → EnteredInOrder before by′ (table ++ Y ∷ [])
 unfolding EnteredInOrder
-order-last [] Y l h o = (l, omega arith, tt)
-order-last (blocker ∷ table) Y l h o = (o .0, omega (arith, o .1), order-last table Y (omega (arith, o .1)) h (o .2))
+order-last [] Y l h k o = (l, k, tt)
+order-last (blocker ∷ table) Y l h k o = (o .0, omega (arith, o .1), order-last table Y (omega (arith, o .1)) h k (o .2))
 
 -- in a configuration all of them entered by its last step
 abbrev pub Stamped : Configuration → Type 0
@@ -123,7 +123,7 @@ judged-stamped opening (noRoomToOpen l) o = o
 judged-stamped {c = c} (finding s l t u) found o = stamped-left c (all-stay (c .table)) o
 judged-stamped {c = c} (extending s l t u) extended o = stamped-left c (all-stay (c .table)) o
 judged-stamped {c = c} (blocking f) (roomToBlock l) o =
-    order-last (staying _ (c .table)) _ (omega arith) (omega arith) (order-left 0 (c .steps) (leave-staying _ (c .table)) o)
+    order-last (staying _ (c .table)) _ (omega arith) (omega arith) (omega arith) (order-left 0 (c .steps) (leave-staying _ (c .table)) o)
 judged-stamped (blocking f) (noRoomToBlock l) o = o
 judged-stamped {S} {c = c} (closing e) closed o = stamped-left c (left-levels S (c .level) 1 (c .table)) o
 judged-stamped {S} {c = c} (emptying j l h t) emptied o =

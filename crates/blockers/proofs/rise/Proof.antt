@@ -49,7 +49,7 @@ close-up-requires-2 c κs =
     let risen = c .before .before .before .before .before .before .before .before .before in
     let passed = risen .before .before .before .before .before .before .before .before .before .before in
     let read = passed .before .before .before .before .before in
-    rise-behind (read .before .before .before .before .before .before .pre) (read .above .ensures) (passed .close-up .ensures) (risen .put .ensures)
+    (search needs, search needs, rise-behind (read .before .before .before .before .before .before .pre) (read .above .ensures) (passed .close-up .ensures) (risen .put .ensures))
 
 same-length : tie.Need-same-length
 same-length c = search needs
