@@ -52,65 +52,67 @@ use Rattle.blockers.proofs.Placing.{
   close-behind-count,
 }
 
--- Y enters: no place is left for it, or it stands behind those that stayed
-module _ {mask level held end : ℕ} {room room′ : BlockerRoom} (closed : ClosedUp (blockerOf mask level) 0 0 held end room room′)
-    (asked : HoldsRoom held room × EvenRoom room) where
-  enter-long : AsLong room room′
-  enter-long =
-      placed-long (staying (blockerOf mask level) (tableOf held room)) (close-placed closed) (asked .0)
-      (holds-fewer (omega (arith, close-count closed, closed .few)) (asked .0))
+-- who stays for Y does not depend on when Y entered
+close-for : (Y : Blocker) {start from to end : ℕ} {room room′ : BlockerRoom} → ClosedUp (blockerOf (Y .mask) (Y .level)) start from to end room room′
+    → ClosedUp Y start from to end room room′
+unfolding staying leaves
+close-for Y closed = record { count = closed .count; few = closed .few; tables = closed .tables }
 
-  -- there is a place for it
-  pub enter-room : end < length (room′ .masks) → HoldsRoom (end + 1) room′
-  enter-room l = record {
-    read = record { in-masks = omega arith; in-levels = omega (arith, enter-long .masks, enter-long .levels, asked .1 .levels) };
-    in-entered = omega (arith, enter-long .masks, enter-long .entered, asked .1 .entered);
-  }
+module _ {Y : Blocker} {held end : ℕ} {room room′ : BlockerRoom} (closed : ClosedUp Y 0 0 held end room room′) where
+  -- closing up leaves the tables as long as before
+  close-long : HoldsRoom held room → AsLong room room′
+  close-long holds =
+      placed-long (staying Y (tableOf held room)) (close-placed closed) holds (holds-fewer (omega (arith, close-count closed, closed .few)) holds)
 
-module _ {mask level held end : ℕ} {room room′ : BlockerRoom} (closed : ClosedUp (blockerOf mask level) 0 0 held end room room′)
-    (asked : HoldsRoom held room × EvenRoom room) where
-  -- who stays does not depend on when Y entered
-  same-closed : (step : ℕ) → ClosedUp (record { mask = mask; level = level; entered = step }) 0 0 held end room room′
-  unfolding staying leaves
-  same-closed step = record { count = closed .count; few = closed .few; tables = closed .tables }
-
-  entering-length : (step : ℕ) → length (entering (record { mask = mask; level = level; entered = step }) (tableOf held room)) ≡ end + 1
+  -- with Y there is one blocker more than stayed
+  entering-length : length (entering Y (tableOf held room)) ≡ end + 1
   unfolding entering
-  entering-length step =
-      let Y : Blocker = record { mask = mask; level = level; entered = step } in
-      omega (arith, length-append (staying Y (tableOf held room)) (Y ∷ []), close-count (same-closed step))
+  entering-length = omega (arith, length-append (staying Y (tableOf held room)) (Y ∷ []), close-count closed)
 
-  pub enter-full : {step : ℕ} → length (room′ .masks) ≤ end → Enters held (record { mask = mask; level = level; entered = step }) room Full room′
+  -- and a place for it, if the masks have one
+  pub enter-room : HoldsRoom held room × EvenRoom room → end < length (room′ .masks) → HoldsRoom (end + 1) room′
+  enter-room asked l =
+      let long = close-long (asked .0) in
+      record {
+        read = record { in-masks = omega arith; in-levels = omega (arith, long .masks, long .levels, asked .1 .levels) };
+        in-entered = omega (arith, long .masks, long .entered, asked .1 .entered);
+      }
+
+-- Y enters: no place is left for it, or it stands behind those that stayed
+module _ {Y : Blocker} {held end : ℕ} {room room′ : BlockerRoom} (closed : ClosedUp (blockerOf (Y .mask) (Y .level)) 0 0 held end room room′)
+    (asked : HoldsRoom held room × EvenRoom room) where
+  pub enter-full : length (room′ .masks) ≤ end → Enters held Y room Full room′
   unfolding enteredAnswer enteredTable
-  enter-full {step} l =
-      let Y : Blocker = record { mask = mask; level = level; entered = step } in
+  enter-full l =
+      let shut = close-for Y closed in
+      let long = close-long closed (asked .0) in
       let table : List Blocker = tableOf held room in
-      let lacking : length (room .masks) < length (entering Y table) = omega (arith, enter-long closed asked .masks, entering-length step) in
+      let lacking : length (room .masks) < length (entering Y table) = omega (arith, long .masks, entering-length shut) in
       let all : staying Y table ≡ table =
-      stay-whole Y table (omega (arith, enter-long closed asked .masks, close-count (same-closed step), asked .0 .read .in-masks, blockers-length room held 0)) in
+      stay-whole Y table (omega (arith, long .masks, close-count shut, asked .0 .read .in-masks, blockers-length room held 0)) in
       let lacks : leb (length (entering Y table)) (length (room .masks)) ≡ false = lt-leb (length (entering Y table)) (length (room .masks)) lacking in
       record {
         answers = sym (choose-false (Held (length (entering Y table))) Full lacks);
-        tables = subst (λ (new : List Blocker). Placed held new room room′) (all ∙ sym (choose-false (entering Y table) table lacks))
-            (close-placed (same-closed step));
+        tables = subst (λ (new : List Blocker). Placed held new room room′) (all ∙ sym (choose-false (entering Y table) table lacks)) (close-placed shut);
       }
 
-  pub enter-held : {step : ℕ} {room″ : BlockerRoom} → Put (record { mask = mask; level = level; entered = step }) end room′ room″ → end < length (room′ .masks) → Enters held (record { mask = mask; level = level; entered = step }) room (Held (end + 1)) room″
+  pub enter-held : {room″ : BlockerRoom} → Put Y end room′ room″ → end < length (room′ .masks) → Enters held Y room (Held (end + 1)) room″
   unfolding enteredAnswer enteredTable entering
-  enter-held {step} {room″} put l =
-      let Y : Blocker = record { mask = mask; level = level; entered = step } in
+  enter-held {room″} put l =
+      let shut = close-for Y closed in
+      let long = close-long closed (asked .0) in
       let table : List Blocker = tableOf held room in
       let new : List Blocker = staying Y table ++ Y ∷ [] in
       let place : HoldsRoom (suc end) room = record {
-        read = record { in-masks = omega (arith, enter-long closed asked .masks); in-levels = omega (arith, enter-long closed asked .masks, asked .1 .levels) };
-        in-entered = omega (arith, enter-long closed asked .masks, asked .1 .entered);
+        read = record { in-masks = omega (arith, long .masks); in-levels = omega (arith, long .masks, asked .1 .levels) };
+        in-entered = omega (arith, long .masks, asked .1 .entered);
       } in
-      let room-left : leb (length new) (length (room .masks)) ≡ true
-      = le-leb (length new) (length (room .masks)) (omega (arith, enter-long closed asked .masks, entering-length step)) in
+      let fits : leb (length new) (length (room .masks)) ≡ true =
+      le-leb (length new) (length (room .masks)) (omega (arith, long .masks, entering-length shut)) in
       record {
-        answers = ap Held (sym (entering-length step)) ∙ sym (choose-true (Held (length new)) Full room-left);
-        tables = subst (λ (t : List Blocker). Placed held t room room″) (sym (choose-true new table room-left))
-            (placed-put (close-placed (same-closed step)) put (close-count (same-closed step)) (asked .0) place);
+        answers = ap Held (sym (entering-length shut)) ∙ sym (choose-true (Held (length new)) Full fits);
+        tables = subst (λ (t : List Blocker). Placed held t room room″) (sym (choose-true new table fits))
+            (placed-put (close-placed shut) put (close-count shut) (asked .0) place);
       }
 
 -- What a caller learns from the answer: whether there was room, the new count, and what stands in the tables.
@@ -177,28 +179,22 @@ module _ {held place level stands : ℕ} {room room′ : BlockerRoom}
       (above ∙ add-one (getD (room .levels) place 0))
 
   first-closed : ClosedUp R 0 0 place stands room room′
-  unfolding staying leaves
-  first-closed = record { count = passed .count; few = passed .few; tables = passed .tables }
+  first-closed = close-for R passed
 
   before : HoldsRoom place room
   before = holds-fewer (omega (arith, asked .1)) (asked .0)
 
   -- it has a place of its own then, and the others behind it theirs
-  rise-long : AsLong room room′
-  rise-long =
-      placed-long (staying R (tableOf place room)) (close-placed first-closed) before
-      (holds-fewer (omega (arith, close-count first-closed, passed .few)) before)
-
   pub rise-room : HoldsRoom (stands + 1) room′
-  rise-room = holds-fewer (omega (arith, passed .few, asked .1)) (long-holds rise-long (asked .0))
+  rise-room = holds-fewer (omega (arith, passed .few, asked .1)) (long-holds (close-long passed before) (asked .0))
 
   pub rise-behind : {Y : Blocker} {room″ : BlockerRoom} → Put Y stands room′ room″ → HoldsRoom held room″
-  rise-behind put = long-holds (put-long put rise-long) (asked .0)
+  rise-behind put = long-holds (put-long put (close-long passed before)) (asked .0)
 
   pub rises-at : {end : ℕ} {room″ room‴ : BlockerRoom} → Put R stands room′ room″
       → ClosedUp (blockerOf (getD (room .masks) place 0) level) (stands + 1) (place + 1) held end room″ room‴
       → RisesAt held place room end stands room‴
-  unfolding risenAmong staying leaves
+  unfolding risenAmong
   rises-at {end} {room″} {room‴} put ahead =
       let first : List Blocker = staying R (tableOf place room) ++ R ∷ [] in
       let others : List Blocker = blockersFrom room (held - (place + 1)) (place + 1) in
@@ -207,8 +203,7 @@ module _ {held place level stands : ℕ} {room room′ : BlockerRoom}
       omega (arith, close-count first-closed, length-append (staying R (tableOf place room)) (R ∷ [])) in
       let fits : HoldsRoom (suc stands) room = holds-fewer (omega (arith, asked .1)) (asked .0) in
       let new : Placed place first room room″ = placed-put (close-placed first-closed) put (close-count first-closed) before fits in
-      let closed : ClosedUp R (stands + 1) (place + 1) held end room″ room‴
-      = record { count = ahead .count; few = ahead .few; tables = ahead .tables } in
+      let closed : ClosedUp R (stands + 1) (place + 1) held end room″ room‴ = close-for R ahead in
       let whole : first ++ staying R others ≡ risenTable held room place =
       append-snoc (staying R (tableOf place room)) R (staying R others)
       ∙ ap (λ (r : Blocker). staying r (tableOf place room) ++ r ∷ staying r others) same-risen in
