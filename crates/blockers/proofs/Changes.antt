@@ -36,10 +36,11 @@ use Rattle.blockers.specs.Room.{
   RisesAt,
   Frames,
 }
-use Rattle.blockers.proofs.Closing.{AsLong, long-holds, put-long}
+use Rattle.blockers.proofs.Closing.{AsLong, long-further, long-holds, put-long}
 use Rattle.blockers.proofs.Placing.{
   blockers-length,
   stay-whole,
+  even-holds,
   holds-fewer,
   placed-first,
   placed-rest,
@@ -73,10 +74,7 @@ module _ {Y : Blocker} {held end : ℕ} {room room′ : BlockerRoom} (closed : C
   pub enter-room : HoldsRoom held room × EvenRoom room → end < length (room′ .masks) → HoldsRoom (end + 1) room′
   enter-room asked l =
       let long = close-long (asked .0) in
-      record {
-        read = record { in-masks = omega arith; in-levels = omega (arith, long .masks, long .levels, asked .1 .levels) };
-        in-entered = omega (arith, long .masks, long .entered, asked .1 .entered);
-      }
+      long-holds long (even-holds (asked .1) (omega (arith, long .masks)))
 
 -- Y enters: no place is left for it, or it stands behind those that stayed
 module _ {Y : Blocker} {held end : ℕ} {room room′ : BlockerRoom} (closed : ClosedUp (blockerOf (Y .mask) (Y .level)) 0 0 held end room room′)
@@ -103,10 +101,7 @@ module _ {Y : Blocker} {held end : ℕ} {room room′ : BlockerRoom} (closed : C
       let long = close-long closed (asked .0) in
       let table : List Blocker = tableOf held room in
       let new : List Blocker = staying Y table ++ Y ∷ [] in
-      let place : HoldsRoom (suc end) room = record {
-        read = record { in-masks = omega (arith, long .masks); in-levels = omega (arith, long .masks, asked .1 .levels) };
-        in-entered = omega (arith, long .masks, asked .1 .entered);
-      } in
+      let place : HoldsRoom (suc end) room = even-holds (asked .1) (omega (arith, long .masks)) in
       let fits : leb (length new) (length (room .masks)) ≡ true =
       le-leb (length new) (length (room .masks)) (omega (arith, long .masks, entering-length shut)) in
       record {
@@ -189,7 +184,7 @@ module _ {held place level stands : ℕ} {room room′ : BlockerRoom}
   rise-room = holds-fewer (omega (arith, passed .few, asked .1)) (long-holds (close-long passed before) (asked .0))
 
   pub rise-behind : {Y : Blocker} {room″ : BlockerRoom} → Put Y stands room′ room″ → HoldsRoom held room″
-  rise-behind put = long-holds (put-long put (close-long passed before)) (asked .0)
+  rise-behind put = long-holds (long-further (close-long passed before) (put-long put)) (asked .0)
 
   pub rises-at : {end : ℕ} {room″ room‴ : BlockerRoom} → Put R stands room′ room″
       → ClosedUp (blockerOf (getD (room .masks) place 0) level) (stands + 1) (place + 1) held end room″ room‴

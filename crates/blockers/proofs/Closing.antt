@@ -11,7 +11,7 @@ use Rattle.lists.specs.Tests.{neg, choose}
 use Rattle.lists.specs.Lists.{keep}
 use Rattle.machine.specs.Machine.{Blocker, covers, leaves, staying}
 use Rattle.machine.specs.Lent.{BlockerRoom, blockerOf, blockerAt, blockersFrom, column, maskOf, levelOf, enteredOf, eachTable}
-use Rattle.machine.proofs.LentTables.{column-length, column-append}
+use Rattle.machine.proofs.LentTables.{tables-alike, column-length, column-append}
 use Rattle.blockers.specs.Room.{HoldsRoom, Put, over, ClosedUp, Cleared}
 use Rattle.blockers.proofs.Over.{over-behind, over-store-last, over-over, over-nothing}
 use Rattle.blockers.proofs.Walks.{next-blocker, no-blocker}
@@ -19,12 +19,8 @@ use Rattle.blockers.proofs.Walks.{next-blocker, no-blocker}
 -- two changes that are the same of each table of so many places are the same of the room
 pub tables-within : {n : ℕ} {room : BlockerRoom} → HoldsRoom n room → (f g : (Blocker → ℕ) → List ℕ → List ℕ)
     → ((field : Blocker → ℕ) (table : List ℕ) → n ≤ length table → f field table ≡ g field table) → eachTable f room ≡ eachTable g room
-tables-within {room = room} holds f g same =
-    rw (
-      same maskOf (room .masks) (holds .read .in-masks),
-      same levelOf (room .levels) (holds .read .in-levels),
-      same enteredOf (room .entered) (holds .in-entered),
-    )
+tables-within {n} {room} holds f g =
+    tables-alike f g room (λ table. n ≤ length table) (holds .read .in-masks) (holds .read .in-levels) (holds .in-entered)
 
 -- a change that leaves a place of each table as it was leaves the blocker there
 pub same-blocker : {n : ℕ} {room : BlockerRoom} → HoldsRoom n room → (f : (Blocker → ℕ) → List ℕ → List ℕ) (i : ℕ)
@@ -43,6 +39,16 @@ pub record AsLong (room room′ : BlockerRoom) : Type 0 where
   pub levels : length (room′ .levels) ≡ length (room .levels)
   pub entered : length (room′ .entered) ≡ length (room .entered)
 
+pub long-itself : (room : BlockerRoom) → AsLong room room
+long-itself room = record { masks = refl; levels = refl; entered = refl }
+
+pub long-further : {first room room′ : BlockerRoom} → AsLong first room → AsLong room room′ → AsLong first room′
+long-further long further = record {
+  masks = further .masks ∙ long .masks;
+  levels = further .levels ∙ long .levels;
+  entered = further .entered ∙ long .entered;
+}
+
 pub long-holds : {n : ℕ} {room room′ : BlockerRoom} → AsLong room room′ → HoldsRoom n room → HoldsRoom n room′
 long-holds long holds = record {
   read = record { in-masks = omega (arith, long .masks, holds .read .in-masks); in-levels = omega (arith, long .levels, holds .read .in-levels) };
@@ -50,13 +56,13 @@ long-holds long holds = record {
 }
 
 -- a store leaves the tables as long as they were
-pub put-long : {place : ℕ} {Y : Blocker} {first room room′ : BlockerRoom} → Put Y place room room′ → AsLong first room → AsLong first room′
-put-long {place = place} {Y = Y} {first = first} {room = room} put long =
-    subst (AsLong first) (sym (put .tables))
+pub put-long : {place : ℕ} {Y : Blocker} {room room′ : BlockerRoom} → Put Y place room room′ → AsLong room room′
+put-long {place} {Y} {room} put =
+    subst (AsLong room) (sym (put .tables))
     (record {
-      masks = length-set (room .masks) place (Y .mask) ∙ long .masks;
-      levels = length-set (room .levels) place (Y .level) ∙ long .levels;
-      entered = length-set (room .entered) place (Y .entered) ∙ long .entered;
+      masks = length-set (room .masks) place (Y .mask);
+      levels = length-set (room .levels) place (Y .level);
+      entered = length-set (room .entered) place (Y .entered);
     })
 
 -- a blocker leaves for Y where Y covers it at its own level
@@ -122,7 +128,7 @@ close-starts {Y} {start} {from} {to} {room} a b holds = record {
   behind = a;
   few = omega arith;
   first = holds;
-  long = record { masks = refl; levels = refl; entered = refl };
+  long = long-itself room;
   stayed = [];
   count = omega arith;
   ahead = refl;
@@ -180,7 +186,7 @@ module _ {Y : Blocker} {start from to : ℕ} {room : BlockerRoom} {kept i : ℕ}
         ∙ first-stays Y blocker rest (sym (e ∙ leaves-covered Y blocker) ∙ t)) in
         goes (so-far .stayed ++ blocker ∷ []) l (omega arith) (omega (arith, so-far .count, length-append (so-far .stayed) (blocker ∷ [])))
         (append-snoc (so-far .stayed) blocker (staying Y rest) ∙ ap (λ (others : List Blocker). so-far .stayed ++ others) same)
-        (put-long put (so-far .long))
+        (long-further (so-far .long) (put-long put))
         (put .tables
         ∙ ap (λ (r : BlockerRoom). eachTable (λ field before. set before kept (field blocker)) r) (so-far .closing)
         ∙ tables-within (so-far .first)
@@ -255,7 +261,7 @@ clear-starts {from} {to} {room} holds = record {
   begins = omega arith;
   bound = omega arith;
   first = holds;
-  long = record { masks = refl; levels = refl; entered = refl };
+  long = long-itself room;
   cleared = tables-within holds (λ field before. before) (λ field before. over (take from before ++ replicate (from - from) 0) before)
       (λ field before l. clearing-starts from before);
 }
@@ -266,7 +272,7 @@ module _ {from to i : ℕ} {room room′ : BlockerRoom} (so-far : Clearing from 
     begins = omega (arith, so-far .begins);
     bound = omega arith;
     first = so-far .first;
-    long = put-long put (so-far .long);
+    long = long-further (so-far .long) (put-long put);
     cleared = put .tables
         ∙ ap (λ (r : BlockerRoom). eachTable (λ field before. set before i (field (blockerOf 0 0))) r) (so-far .cleared)
         ∙ zeros;

@@ -7,16 +7,17 @@ use mathlib.Core.List.{List, [], _∷_, _++_, append-nil}
 use native.Mathlib.Nat.{sub-zero}
 use native.Mathlib.Omega.{arith}
 use lib.ListN.{length, take, drop, getD, set, replicate, length-append, length-replicate}
-use lib.Seq.{append-snoc, drop-cons, take-at, set-split, length-take-le}
+use lib.Seq.{append-snoc, drop-cons, take-at, set-split}
 use Rattle.lists.specs.Tests.{neg, choose}
 use Rattle.lists.specs.Lists.{keep}
 use Rattle.lists.proofs.Lists.{keep-length}
 use Rattle.machine.specs.Machine.{Blocker, leaves, staying}
-use Rattle.machine.specs.Lent.{BlockerRoom, blockerAt, blockersFrom, column, maskOf, levelOf, enteredOf, placed, eachTable, withTable}
+use Rattle.machine.specs.Lent.{BlockerRoom, EvenRoom, blockerAt, blockersFrom, column, maskOf, levelOf, enteredOf, placed, eachTable, withTable}
 use Rattle.machine.proofs.LentTables.{
   column-length,
   column-append,
   placed-length,
+  placed-front,
   behind,
   placed-behind,
   drop-placed,
@@ -25,7 +26,7 @@ use Rattle.machine.proofs.LentTables.{
   read-back-table,
 }
 use Rattle.blockers.specs.Room.{HoldsRoom, tableOf, Placed, Put, over, ClosedUp}
-use Rattle.blockers.proofs.Over.{over-behind, over-drop, over-nothing}
+use Rattle.blockers.proofs.Over.{over-behind, over-drop}
 use Rattle.blockers.proofs.Closing.{AsLong, tables-within, same-blocker}
 
 -- the blockers in use are as many as are held
@@ -77,6 +78,10 @@ holds-both h k = record {
   in-entered = omega (arith, h .in-entered, k .in-entered);
 }
 
+-- where the tables are of one length, the masks say for all
+pub even-holds : {n : ℕ} {room : BlockerRoom} → EvenRoom room → n ≤ length (room .masks) → HoldsRoom n room
+even-holds even l = record { read = record { in-masks = l; in-levels = omega (arith, even .levels) }; in-entered = omega (arith, even .entered) }
+
 pub holds-fewer : {a b : ℕ} {room : BlockerRoom} → b ≤ a → HoldsRoom a room → HoldsRoom b room
 holds-fewer l h = record {
   read = record { in-masks = omega (arith, h .read .in-masks); in-levels = omega (arith, h .read .in-levels) };
@@ -124,14 +129,6 @@ own-column room field table own (suc count) at l =
     ap₂ (λ (x : ℕ) (rest : List ℕ). x ∷ rest) (own at) (own-column room field table own count (suc at) (omega arith))
     ∙ ap (λ (rest : List ℕ). take (suc count) rest) (sym (drop-cons table at 0 (omega arith)))
 
-placed-own : (held : ℕ) (new before : List ℕ) → held ≤ length before → new ≡ take held before → placed held new before ≡ before
-placed-own held new before l e =
-    let none : held - length (take held before) ≡ 0 = omega (arith, length-take-le held before l) in
-    placed-over held new before
-    ∙ ap (λ (front : List ℕ). over (front ++ replicate (held - length front) 0) before) e
-    ∙ ap (λ (k : ℕ). over (take held before ++ replicate k 0) before) none
-    ∙ sym (over-nothing held before)
-
 -- The blockers in use in their own place: the room is as it was.
 pub own-room : {held : ℕ} {room : BlockerRoom} → HoldsRoom held room → withTable held (tableOf held room) room ≡ room
 unfolding withTable
@@ -145,7 +142,7 @@ own-room {held} {room} holds =
     own : (field : Blocker → ℕ) (table : List ℕ) → ((i : ℕ) → field (blockerAt room i) ≡ getD table i 0) → held ≤ length table
         → placed held (column field (blockersFrom room held 0)) table ≡ table
     own field table same l =
-        placed-own held (column field (blockersFrom room held 0)) table l (own-column room field table same held 0 (omega arith))
+        ap (λ (new : List ℕ). placed held new table) (own-column room field table same held 0 (omega arith)) ∙ placed-front held table l
 
 -- the blockers that stay, closed up from the first place on
 module _ {Y : Blocker} {held end : ℕ} {room room′ : BlockerRoom} (closed : ClosedUp Y 0 0 held end room room′) where

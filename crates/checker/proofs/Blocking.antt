@@ -22,7 +22,7 @@ use Rattle.blockers.specs.declared.Entered.the-variants.{Held, Full}
 use Rattle.blockers.proofs.Parts.{part-unstamped, part-alike}
 use Rattle.machine.proofs.Unstamped.{unstamped-blocks, same-after, same-chosen}
 use Rattle.blockers.proofs.Closing.{long-holds}
-use Rattle.blockers.proofs.Placing.{placed-table, placed-long}
+use Rattle.blockers.proofs.Placing.{even-holds, placed-table, placed-long}
 use Rattle.blockers.proofs.Changes.{held-room, held-count, held-fits, held-placed, full-room, full-room-stays}
 use Rattle.choices.specs.Found.{ReadAs, choiceOf}
 use Rattle.choices.specs.declared.Choice.{Choice}
@@ -143,16 +143,11 @@ module _ (initial finals : ℕ) {room : BlockerRoom} {cases symbols : List ℕ} 
     unfolding new
     new-fits = omega (arith, held-fits enters′ e, held-count enters′ e)
 
-    holds-new : (count : ℕ) → count ≤ length (room .masks) → HoldsRoom count room
-    holds-new count l = record {
-      read = record { in-masks = l; in-levels = omega (arith, ready .blocker-room .levels) };
-      in-entered = omega (arith, ready .blocker-room .entered);
-    }
-
     block-fits : HoldsRoom held room′
     unfolding new
     block-fits =
-        long-holds (placed-long new (held-placed enters′ e) (ready-holds ready) (holds-new (length new) new-fits)) (holds-new held (held-fits enters′ e))
+        long-holds (placed-long new (held-placed enters′ e) (ready-holds ready) (even-holds (ready .blocker-room) new-fits))
+        (even-holds (ready .blocker-room) (held-fits enters′ e))
 
     table-is : tableOf held room′ ≡ new
     unfolding new

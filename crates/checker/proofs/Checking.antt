@@ -1,6 +1,6 @@
 -- A run for every input: its checks, the clearing before it, and its result. Assumes nothing.
 use Prim.Native.Nat.{ℕ, zero, suc, _-_, _≤_, _<_}
-use mathlib.Core.Path.{_≡_, refl, sym, ap, ap₂, _∙_}
+use mathlib.Core.Path.{_≡_, refl, sym, ap, ap₂, subst, _∙_}
 use mathlib.Core.List.{List, _++_}
 use native.Mathlib.Omega.{arith}
 use borrow.Author.Tests.{eq-eqb, ne-eqb, lt-ltb, le-ltb, ltb-false}
@@ -15,9 +15,9 @@ use Rattle.automata.specs.declared.image.Image.{Image}
 use Rattle.automata.specs.declared.image.Image.the-variants as Answer
 use Rattle.automata.proofs.WordTests.{answer-valid, answer-head}
 use Rattle.machine.specs.Machine.{Blocker, Next, comesTo}
-use Rattle.machine.specs.Lent.{BlockerRoom, EvenRoom, roomOf, column, maskOf, levelOf, enteredOf, placed, withTable}
+use Rattle.machine.specs.Lent.{BlockerRoom, EvenRoom, roomOf, column, placed, eachTable, withTable}
 use Rattle.machine.specs.Runs.{Result, roomsOf, refused, casesIn, symbolsIn, tablesAfter, resultOf, oddRooms, oversize, checkRooms, checkRun, endOf, runWith, runOf}
-use Rattle.machine.proofs.LentTables.{placed-whole}
+use Rattle.machine.proofs.LentTables.{tables-same, tables-even, placed-whole}
 use Rattle.machine.proofs.RunsKept.{check-fails}
 use Rattle.checker.specs.declared.run.Counts.{Counts}
 use Rattle.checker.specs.Stage.{lentOf, termsOf}
@@ -71,24 +71,18 @@ placed-zeros before after new e =
 
 module _ {image : List ℕ} {head : Head} {room room′ : BlockerRoom} {cases symbols cases′ symbols′ : List ℕ}
     (runnable : Runnable image head room cases symbols) (cleared : Cleared room cases symbols room′ cases′ symbols′) where
-  masks-are : room′ .masks ≡ replicate (length (room .masks)) 0
-  masks-are = ap (λ (r : BlockerRoom). r .masks) (cleared .new-room)
-
-  levels-are : room′ .levels ≡ replicate (length (room .levels)) 0
-  levels-are = ap (λ (r : BlockerRoom). r .levels) (cleared .new-room)
-
-  entered-are : room′ .entered ≡ replicate (length (room .entered)) 0
-  entered-are = ap (λ (r : BlockerRoom). r .entered) (cleared .new-room)
-
   masks-length : length (room′ .masks) ≡ length (room .masks)
-  masks-length = zeros-length (room .masks) (room′ .masks) masks-are
+  masks-length = ap (λ (r : BlockerRoom). length (r .masks)) (cleared .new-room) ∙ length-replicate (length (room .masks)) 0
 
   -- the tables of the room are of one length still
   even-cleared : EvenRoom room′
-  even-cleared = record {
-    levels = masks-length ∙ runnable .rooms .blocker-room .levels ∙ sym (zeros-length (room .levels) (room′ .levels) levels-are);
-    entered = masks-length ∙ runnable .rooms .blocker-room .entered ∙ sym (zeros-length (room .entered) (room′ .entered) entered-are);
-  }
+  even-cleared =
+      let even = runnable .rooms .blocker-room in
+      subst EvenRoom (sym (cleared .new-room))
+      (record {
+        levels = omega (arith, even .levels, length-replicate {A = ℕ} (length (room .masks)) 0, length-replicate {A = ℕ} (length (room .levels)) 0);
+        entered = omega (arith, even .entered, length-replicate {A = ℕ} (length (room .masks)) 0, length-replicate {A = ℕ} (length (room .entered)) 0);
+      })
 
   pub cleared-runnable : Runnable image head room′ cases′ symbols′
   cleared-runnable =
@@ -104,12 +98,10 @@ module _ {image : List ℕ} {head : Head} {room room′ : BlockerRoom} {cases sy
   pub cleared-itself : Cleared room′ cases′ symbols′ room′ cases′ symbols′
   cleared-itself =
       record {
-        new-room =
-            sym (rw (
-              ← zeros-again (room .masks) (room′ .masks) masks-are,
-              ← zeros-again (room .levels) (room′ .levels) levels-are,
-              ← zeros-again (room .entered) (room′ .entered) entered-are,
-            ));
+        new-room = cleared .new-room
+            ∙ tables-same (λ field before. replicate (length before) 0) (λ field before. replicate (length (replicate {A = ℕ} (length before) 0)) 0) room
+            (λ field before. zeros-again before (replicate (length before) 0) refl)
+            ∙ ap (λ (r : BlockerRoom). eachTable (λ field before. replicate (length before) 0) r) (sym (cleared .new-room));
         new-cases = zeros-again cases cases′ (cleared .new-cases);
         new-symbols = zeros-again symbols symbols′ (cleared .new-symbols);
       }
@@ -123,13 +115,11 @@ module _ {image : List ℕ} {head : Head} {room room′ : BlockerRoom} {cases sy
   room-cleared : (table : List Blocker) → withTable (length (room′ .masks)) table room′ ≡ withTable (length (room .masks)) table room
   unfolding withTable
   room-cleared table =
-      let even = runnable .rooms .blocker-room in
-      rw (
-        placed-zeros (room .masks) (room′ .masks) (column maskOf table) masks-are,
-        other-places (length (room .masks)) (length (room′ .masks)) (room .levels) (room′ .levels) (column levelOf table) (even .levels) (even-cleared .levels) levels-are,
-        other-places (length (room .masks)) (length (room′ .masks)) (room .entered) (room′ .entered) (column enteredOf table) (even .entered) (even-cleared .entered)
-            entered-are,
-      )
+      ap (λ (r : BlockerRoom). eachTable (λ field before. placed (length (room′ .masks)) (column field table) before) r) (cleared .new-room)
+      ∙ tables-even (λ field before. placed (length (room′ .masks)) (column field table) (replicate (length before) 0))
+      (λ field before. placed (length (room .masks)) (column field table) before) room (runnable .rooms .blocker-room)
+      (λ field before e. other-places (length (room .masks)) (length (room′ .masks)) before (replicate (length before) 0) (column field table) e
+      (masks-length ∙ e ∙ sym (length-replicate (length before) 0)) refl)
 
   result-cleared : (n : Next) → resultOf (lentOf room′ cases′ symbols′) n ≡ resultOf (lentOf room cases symbols) n
   unfolding resultOf tablesAfter

@@ -21,12 +21,12 @@ use Rattle.machine.proofs.Steps.{Advanced, tried, advanced, advanced-counts}
 use Rattle.machine.proofs.Chains.{Working, chain-working, each-same}
 use Rattle.machine.proofs.Driving.{one-call-more, calls-counted, calls-suffice}
 use Rattle.machine.proofs.Invariant.{chain-length}
-use Rattle.machine.proofs.LentTables.{placed-none}
+use Rattle.machine.proofs.LentTables.{tables-even, placed-none}
 use Rattle.machine.proofs.Images.{image-lawful}
 use Rattle.machine.proofs.Judging.{Even, number-low}
 use Rattle.machine.proofs.Language.{Sound}
 use Rattle.machine.proofs.RecordSteps.{shown, Fitting, working-fits, shown-masks, shown-levels, shown-entered, shown-cases, shown-symbols, step-shown}
-use Rattle.blockers.proofs.Closing.{AsLong}
+use Rattle.blockers.proofs.Closing.{AsLong, long-itself, long-further}
 use Rattle.choices.specs.Found.{ReadAs}
 use Rattle.checker.specs.declared.record.Run.{Run}
 use Rattle.checker.specs.Stage.{lentOf, termsOf, stage, Ready}
@@ -160,14 +160,8 @@ module _ (image : List ℕ) (lent : Lent) (terms : Terms) where
     no-blockers : withTable (length (lent .room .masks)) [] (lent .room) ≡ eachTable (λ field before. replicate (length before) 0) (lent .room)
     unfolding withTable column
     no-blockers =
-        rw (
-          none (lent .room .masks) refl,
-          none (lent .room .levels) (even .blockers .levels),
-          none (lent .room .entered) (even .blockers .entered),
-        )
-      where
-        none : (before : List ℕ) → length (lent .room .masks) ≡ length before → placed (length (lent .room .masks)) [] before ≡ replicate (length before) 0
-        none before e = ap (λ (k : ℕ). placed k [] before) e ∙ placed-none before
+        tables-even (λ field before. placed (length (lent .room .masks)) [] before) (λ field before. replicate (length before) 0) (lent .room) (even .blockers)
+        (λ field before e. ap (λ (k : ℕ). placed k [] before) e ∙ placed-none before)
 
     emptied : lentOf room′ cases′ symbols′ ≡ tablesAfter (length (lent .room .masks)) (length (lent .cases)) lent (goesOn beginning)
     unfolding tablesAfter casesIn symbolsIn columnBack beginning
@@ -219,7 +213,7 @@ drive-starts {image} {head} {room} {cases} {symbols} hints allowance runnable cl
       runnable = runnable;
       going = going-starts image (lentOf room cases symbols) (termsOf hints allowance)
           (runnable-even (lentOf room cases symbols) runnable) cleared head (runnable .image-read) begins;
-      long = record { masks = refl; levels = refl; entered = refl };
+      long = long-itself room;
       long-cases = refl;
       long-symbols = refl;
     }
@@ -240,14 +234,13 @@ module _ {image : List ℕ} {head : Head} {lent : Lent} {terms : Terms} {room : 
 
   module _ (six : run .answer ≡ 6) {room′ : BlockerRoom} {cases′ symbols′ : List ℕ} {later : Run}
       (made : stage room′ cases′ symbols′ later ≡ stepOf image terms (stage room cases symbols run)) where
-    pub drive-goes : length (room′ .masks) ≡ length (room .masks) → length (room′ .levels) ≡ length (room .levels)
-        → length (room′ .entered) ≡ length (room .entered) → length cases′ ≡ length cases → length symbols′ ≡ length symbols
+    pub drive-goes : AsLong room room′ → length cases′ ≡ length cases → length symbols′ ≡ length symbols
         → Driven image head lent terms room′ cases′ symbols′ later
-    drive-goes m l e c s =
+    drive-goes further c s =
         record {
           runnable = driven .runnable;
           going = going-goes image lent terms valid even (driven .going) six made;
-          long = record { masks = m ∙ driven .long .masks; levels = l ∙ driven .long .levels; entered = e ∙ driven .long .entered };
+          long = long-further (driven .long) further;
           long-cases = c ∙ driven .long-cases;
           long-symbols = s ∙ driven .long-symbols;
         }

@@ -8,8 +8,9 @@ use native.Mathlib.Omega.{arith}
 use lib.ListN.{length, take, replicate, length-replicate, drop-of-length-le}
 use Rattle.lists.specs.Tests.{choose}
 use Rattle.masks.specs.Sets.{subset}
+use Rattle.machine.specs.Machine.{Blocker}
 use Rattle.machine.specs.Lent.{BlockerRoom, columnBack, placed}
-use Rattle.machine.proofs.LentTables.{placed-none}
+use Rattle.machine.proofs.LentTables.{tables-even, placed-none}
 use Rattle.blockers.specs.Room.{over}
 use Rattle.blockers.specs.Room as Room
 use Rattle.pending.specs.Room.{Placed as PlacedWord}
@@ -39,15 +40,11 @@ pub cleared-is : {room room′ : BlockerRoom} {cases symbols cases′ symbols′
 unfolding columnBack
 cleared-is {room} {room′} {cases} {symbols} checked blockers word =
     record {
-      new-room = blockers .tables ∙ rw (
-        all-cleared (room .masks),
-        zeros (room .levels) (checked .blocker-room .levels),
-        zeros (room .entered) (checked .blocker-room .entered),
-      );
+      new-room = blockers .tables ∙ tables-even _ (λ field before. replicate (length before) 0) room (checked .blocker-room) zeros;
       new-cases = word .new-cases ∙ placed-none cases;
       new-symbols = word .new-symbols ∙ ap (λ (k : ℕ). placed k [] symbols) (checked .word-room) ∙ placed-none symbols;
     }
   where
-    zeros : (before : List ℕ) → length (room .masks) ≡ length before
+    zeros : (field : Blocker → ℕ) (before : List ℕ) → length (room .masks) ≡ length before
         → over (take 0 before ++ replicate (length (room .masks) - 0) 0) before ≡ replicate (length before) 0
-    zeros before e = ap (λ (k : ℕ). over (take 0 before ++ replicate (k - 0) 0) before) e ∙ all-cleared before
+    zeros field before e = ap (λ (k : ℕ). over (take 0 before ++ replicate (k - 0) 0) before) e ∙ all-cleared before

@@ -10,17 +10,14 @@ use Rattle.machine.specs.Lent.{BlockerRoom, roomOf, pendingFirst, columnBack, p
 use Rattle.machine.specs.Runs.{numberOf, casesIn, symbolsIn, tablesAfter}
 use Rattle.machine.specs.Records.{configurationOf, pendingOf, recordOf, after}
 use Rattle.blockers.specs.Room.{Holds, HoldsRoom, tableOf}
-use Rattle.blockers.proofs.Placing.{own-room, blockers-length}
+use Rattle.blockers.proofs.Placing.{own-room, even-holds, blockers-length}
 use Rattle.pending.specs.Room.{Holds as HoldsWord, Placed as PlacedWord}
 use Rattle.checker.specs.declared.record.Run.{Run}
 use Rattle.checker.specs.Stage.{recordIn, stage, Ready, leftOf, Leaves, Pends}
 
 module _ {room : BlockerRoom} {cases symbols : List ℕ} {run : Run} (ready : Ready (stage room cases symbols run)) where
   pub ready-holds : HoldsRoom (run .held) room
-  ready-holds = record {
-    read = record { in-masks = ready .held-fits; in-levels = omega (arith, ready .held-fits, ready .blocker-room .levels) };
-    in-entered = omega (arith, ready .held-fits, ready .blocker-room .entered);
-  }
+  ready-holds = even-holds (ready .blocker-room) (ready .held-fits)
 
   pub ready-word : HoldsWord (run .pending) cases symbols
   ready-word =

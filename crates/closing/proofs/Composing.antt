@@ -1,6 +1,6 @@
 -- One change of the blocker room after another is a change of what stood there first. Assumes nothing.
 use Prim.Native.Nat.{ℕ, max}
-use mathlib.Core.Path.{_≡_, refl, sym, ap, subst, _∙_}
+use mathlib.Core.Path.{_≡_, sym, ap, subst, _∙_}
 use mathlib.Core.List.{List}
 use native.Mathlib.Omega.{arith}
 use lib.ListN.{length, take}
@@ -8,7 +8,7 @@ use Rattle.machine.specs.Machine.{Blocker}
 use Rattle.machine.specs.Lent.{BlockerRoom, roomOf, column, placed, withTable}
 use Rattle.machine.proofs.LentTables.{column-length, placed-placed, tables-same}
 use Rattle.blockers.specs.Room.{HoldsRoom, tableOf}
-use Rattle.blockers.proofs.Closing.{AsLong, long-holds}
+use Rattle.blockers.proofs.Closing.{AsLong, long-itself, long-further, long-holds}
 use Rattle.blockers.proofs.Placing.{blockers-length, holds-fewer, own-room, placed-long, placed-table}
 use Rattle.blockers.proofs.Parts.{part-levels}
 use Rattle.closing.specs.Close.{Becomes}
@@ -69,18 +69,12 @@ pub record Changed (first : BlockerRoom) (held count : ℕ) (room : BlockerRoom)
   pub becomes : Becomes held (tableOf count room) first count room
 
 pub unchanged : {held : ℕ} {room : BlockerRoom} → HoldsRoom held room → Changed room held held room
-unchanged holds = record { holds = holds; long = record { masks = refl; levels = refl; entered = refl }; becomes = becomes-own holds }
+unchanged holds = record { holds = holds; long = long-itself _; becomes = becomes-own holds }
 
 pub changed-further : {first : BlockerRoom} {held count : ℕ} {room : BlockerRoom} {table : List Blocker} {count′ : ℕ} {room′ : BlockerRoom}
     → Changed first held count room → Becomes count table room count′ room′ → Changed first held count′ room′
-changed-further changed change =
-    let long = becomes-long change (changed .holds) in
-    record {
-      holds = becomes-holds change (changed .holds);
-      long = record {
-        masks = long .masks ∙ changed .long .masks;
-        levels = long .levels ∙ changed .long .levels;
-        entered = long .entered ∙ changed .long .entered;
-      };
-      becomes = becomes-further (changed .becomes) (becomes-same change (sym (becomes-table change)));
-    }
+changed-further changed change = record {
+  holds = becomes-holds change (changed .holds);
+  long = long-further (changed .long) (becomes-long change (changed .holds));
+  becomes = becomes-further (changed .becomes) (becomes-same change (sym (becomes-table change)));
+}

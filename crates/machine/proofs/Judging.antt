@@ -13,7 +13,7 @@ use Rattle.machine.specs.System.{System}
 use Rattle.machine.specs.Machine.{Blocker, ends, comesTo}
 use Rattle.machine.specs.Machine.{Outcome, nonempty, empty, stepsLack, blockersLack, wordLacks}
 use Rattle.machine.specs.Meaning.{Closed, EnteredInOrder}
-use Rattle.machine.specs.Lent.{BlockerRoom, EvenRoom, column, maskOf, levelOf, enteredOf, placed, eachTable, withTable}
+use Rattle.machine.specs.Lent.{BlockerRoom, EvenRoom, column, placed, eachTable, withTable}
 use Rattle.machine.specs.Runs.{Lent, systemOf, roomsOf, numberOf, casesIn, symbolsIn, tablesAfter, resultOf}
 use Rattle.machine.specs.Promises.{heldBy, WordFound, Rules, Agreed}
 use Rattle.machine.proofs.Language.{IsVerdict, Word, accepts, Lawful, Agree, both-nonempty, both-empty, Decided, decidedNonempty, decidedEmpty}
@@ -21,7 +21,7 @@ use Rattle.machine.proofs.Verdicts.{closed-none}
 use Rattle.machine.proofs.Entering.{Stamped}
 use Rattle.machine.proofs.Chains.{Done}
 use Rattle.machine.proofs.Agreeing.{right-verdicts-agree}
-use Rattle.machine.proofs.LentTables.{column-whole, placed-whole, placed-none, read-back}
+use Rattle.machine.proofs.LentTables.{tables-even, column-whole, placed-whole, placed-none, read-back}
 use Rattle.machine.proofs.Images.{image-lawful, accepted-by-runs, same-language}
 
 -- the number of an end is that of a verdict or a stop
@@ -46,11 +46,8 @@ module _ (lent : Lent) (even : Even lent) (o : Outcome) where
   room-end : resultOf lent (ends o) .tables .room ≡ endRoom (comesTo (ends o) .table)
   unfolding resultOf tablesAfter withTable endRoom
   room-end =
-      let whole : (field : Blocker → ℕ) (before : List ℕ) → length (lent .room .masks) ≡ length before
-      → placed (length (lent .room .masks)) (column field (comesTo (ends o) .table)) before
-      ≡ column field (comesTo (ends o) .table) ++ replicate (length before - length (comesTo (ends o) .table)) 0
-      = λ field before e. column-whole field (comesTo (ends o) .table) (length (lent .room .masks)) before e in
-      rw (whole maskOf (lent .room .masks) refl, whole levelOf (lent .room .levels) (even .blockers .levels), whole enteredOf (lent .room .entered) (even .blockers .entered))
+      tables-even (λ field before. placed (length (lent .room .masks)) (column field (comesTo (ends o) .table)) before) _ (lent .room) (even .blockers)
+      (λ field before e. column-whole field (comesTo (ends o) .table) (length (lent .room .masks)) before e)
 
   cases-end : resultOf lent (ends o) .tables .cases ≡ replicate (length (lent .cases)) 0
   unfolding resultOf tablesAfter casesIn

@@ -22,6 +22,7 @@ use lib.Seq.{take-suc, drop-drop, append-snoc, getD-at, length-take-le}
 use Rattle.machine.specs.Machine.{Blocker, Pending}
 use Rattle.machine.specs.Lent.{
   BlockerRoom,
+  EvenRoom,
   blockerAt,
   blockersFrom,
   pendingFirst,
@@ -67,10 +68,20 @@ placed-exact new before old e =
     let most : max old (length new) ≡ old = omega arith in
     rw (free, most, append-nil)
 
--- changes of the blocker room's tables that are the same of each table are the same of the room
-pub tables-same : (f g : (Blocker → ℕ) → List ℕ → List ℕ) (room : BlockerRoom)
-    → ((field : Blocker → ℕ) (table : List ℕ) → f field table ≡ g field table) → eachTable f room ≡ eachTable g room
-tables-same f g room same = rw (same maskOf (room .masks), same levelOf (room .levels), same enteredOf (room .entered))
+-- two changes that are the same of each table with some property are the same of a room whose tables have it
+module _ (f g : (Blocker → ℕ) → List ℕ → List ℕ) (room : BlockerRoom) where
+  pub tables-alike : (P : List ℕ → Type 0) → P (room .masks) → P (room .levels) → P (room .entered)
+      → ((field : Blocker → ℕ) (table : List ℕ) → P table → f field table ≡ g field table) → eachTable f room ≡ eachTable g room
+  tables-alike P m l e same = rw (same maskOf (room .masks) m, same levelOf (room .levels) l, same enteredOf (room .entered) e)
+
+  -- whatever the table
+  pub tables-same : ((field : Blocker → ℕ) (table : List ℕ) → f field table ≡ g field table) → eachTable f room ≡ eachTable g room
+  tables-same same = tables-alike (λ table. Unit {0}) tt tt tt (λ field table u. same field table)
+
+  -- of tables that are as long as the masks
+  pub tables-even : EvenRoom room → ((field : Blocker → ℕ) (table : List ℕ) → length (room .masks) ≡ length table → f field table ≡ g field table)
+      → eachTable f room ≡ eachTable g room
+  tables-even even = tables-alike (λ table. length (room .masks) ≡ length table) refl (even .levels) (even .entered)
 
 -- the blockers one place further, behind one more entry
 shifted : (blocker : Blocker) (room : BlockerRoom) (count at : ℕ)

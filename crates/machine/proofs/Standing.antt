@@ -19,7 +19,6 @@ use Rattle.machine.proofs.Steps.{Advanced, tried, spent}
 pub record Counted (rooms : Rooms) (c : Configuration) : Type 0 where
   pub blocks-made : c .blocks ≤ c .steps
   pub hints-accepted : c .accepted ≤ c .blocks
-  pub levels-opened : c .level ≤ c .steps
   pub table-fits : length (c .table) ≤ rooms .blockers
   pub word-fits : c .level ≤ rooms .word
 
