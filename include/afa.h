@@ -5,11 +5,11 @@
    Every input is answered. No function keeps what it is lent, and none reads
    or writes outside it, if the caller sees to three things:
    - A pointer is good for the length beside it, which counts elements. It may
-     be null where that length is 0. head and counts are never null.
-   - Tables are aligned as their type, head and counts too.
+     be null where that length is 0. head, counts and found are never null.
+   - Tables are aligned as their type, head, counts and found too.
    - Tables must not overlap: what a function may write (head, masks, levels,
-     entered, cases, symbols, counts) shares no byte with anything else that it
-     is lent in the same call. */
+     entered, cases, symbols, counts, found; afa_why writes found alone) shares
+     no byte with anything else that it is lent in the same call. */
 #ifndef AFA_H
 #define AFA_H
 
@@ -47,6 +47,20 @@ uint64_t afa_run(const uint8_t *image, size_t image_len,
                  uint8_t *symbols, size_t symbols_len,
                  const uint64_t *hints, size_t hints_len,
                  uint64_t allowance, uint64_t counts[4]);
+
+/* Tells why a case is blocked at a level. 1 if it is blocked by a blocker, and
+   found has the place, from 0, of the first in table order that covers it (of
+   the level asked or more, and with the case as a subset) and that blocker's
+   own level; 2 if the level is 0 and the case does not contain the initial
+   case, and found has the lowest initial state absent from it, and 0; 0 if it
+   is not blocked there, and found has 0 and 0. Of masks and levels of unlike
+   length the shorter says how many blockers there are: after a run, lend as
+   many of each as are held. No input is refused. A level above 2^32 - 1 is
+   above every blocker's. */
+uint64_t afa_why(uint64_t initial,
+                 const uint64_t *masks, size_t masks_len,
+                 const uint32_t *levels, size_t levels_len,
+                 uint64_t level, uint64_t mask, uint64_t found[2]);
 
 #ifdef __cplusplus
 }

@@ -1,12 +1,14 @@
 //! The library's C functions, and the calls of them with every slice in guarded memory. Each call is
-//! made once with the slices at either edge, and both must answer alike. `afa_run` stands in a module
-//! of its own.
+//! made once with the slices at either edge, and both must answer alike. `afa_run` and `afa_why` stand
+//! in modules of their own.
 
 use crate::compare::hexadecimal;
 use crate::fault;
 use crate::guarded::{ReadOnly, Writable, EDGES};
+use std::slice;
 
 pub mod run;
+pub mod why;
 
 /// As `include/afa.h` declares them.
 pub mod interface {
@@ -36,6 +38,12 @@ pub fn accepts(image: &[u8], word: &[u8]) -> u64 {
     fault::on_record("afa_accepts", &lent, || unsafe {
         interface::afa_accepts(image.as_ptr(), image.len(), word.as_ptr(), word.len())
     })
+}
+
+/// The bytes of numbers of 32 or 64 bits, as they stand.
+fn bytes_of<T: Copy + Into<u64>>(numbers: &[T]) -> &[u8] {
+    // SAFETY: these are the same bytes, and any byte is a value.
+    unsafe { slice::from_raw_parts(numbers.as_ptr().cast(), size_of_val(numbers)) }
 }
 
 /// The library with the memory that is lent to it, mapped once and used for every call.

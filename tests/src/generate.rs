@@ -5,6 +5,7 @@ use crate::acceptance::word_backward_set;
 use crate::image::{all_states, Model, Row};
 use crate::random::Random;
 
+pub mod blockers;
 pub mod hints;
 pub mod runs;
 pub mod stops;

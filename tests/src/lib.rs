@@ -17,3 +17,4 @@ pub mod rearrange;
 pub mod search;
 pub mod tables;
 pub mod text;
+pub mod why;

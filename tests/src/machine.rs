@@ -88,6 +88,33 @@ pub fn observed_run<Entered: EnteredTable>(
     machine.finish(number)
 }
 
+/// Whether each case is blocked at the level beside it, to a machine that holds so many blockers as the
+/// tables have them. The image must be one that no check refuses. The machine is written out here too:
+/// a constructor that both shared would change the code that the benchmark measures.
+pub fn blocked(image: &[u8], rooms: Rooms, held: usize, asked: &[(u64, u32)]) -> Vec<bool> {
+    let head = check(image).expect("a valid image");
+    let mut machine = Machine {
+        automaton: Automaton::new(image, &head),
+        blockers: Blockers::new(rooms.masks, rooms.levels, rooms.entered),
+        cases: rooms.cases,
+        symbols: rooms.symbols,
+        hints: &[],
+        level: 0,
+        open: false,
+        pending: 0,
+        steps: 0,
+        blocks: 0,
+        hints_accepted: 0,
+        word_length: 0,
+        observe: |_| {},
+    };
+    machine.blockers.hold(held);
+    let asked = asked.iter();
+    asked
+        .map(|&(case, level)| machine.blocked(case, level))
+        .collect()
+}
+
 /// Cases are pending at consecutive levels from N down, so the first place of word room is that of
 /// level N and the last one in use that of the lowest.
 struct Machine<'a, Entered, Observe> {

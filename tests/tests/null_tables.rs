@@ -3,6 +3,7 @@
 
 use afa_tests::afa::interface::{afa_accepts, afa_read};
 use afa_tests::afa::run::interface::afa_run;
+use afa_tests::afa::why::interface::afa_why;
 use afa_tests::image::{model_a, model_b, model_c, model_d};
 use afa_tests::machine;
 use afa_tests::tables::{Answer, Tables};
@@ -121,5 +122,43 @@ fn run() {
         [4, 4, 4, 4, 0],
     ] {
         expect(&c, lengths, &[], 100, [30, 0, 0, 0, 0]);
+    }
+}
+
+/// Of no blockers, or of some masks or levels alone.
+#[test]
+fn why() {
+    let (masks, levels) = ([u64::MAX; 9], [1; 9]);
+    for (masks, levels) in [
+        (&[][..], &[][..]),
+        (&masks[..1], &[]),
+        (&masks, &[]),
+        (&[], &levels[..1]),
+        (&[], &levels),
+    ] {
+        for (level, case, number, expected) in [
+            (0, 0, 2, [1, 0]),
+            (0, 2, 2, [63, 0]),
+            (0, u64::MAX, 0, [0, 0]),
+            (1, 0, 0, [0, 0]),
+            (1, u64::MAX, 0, [0, 0]),
+            (u64::MAX, 0, 0, [0, 0]),
+        ] {
+            let mut found = [7; 2];
+            // SAFETY: what is null has no elements, the rest as many as it says, and two are found.
+            let answered = unsafe {
+                afa_why(
+                    2 | 1 << 63,
+                    pointer(masks),
+                    masks.len(),
+                    pointer(levels),
+                    levels.len(),
+                    level,
+                    case,
+                    found.as_mut_ptr(),
+                )
+            };
+            assert_eq!((answered, found), (number, expected), "{level}, {case:x}");
+        }
     }
 }

@@ -36,9 +36,9 @@ use Rattle.blockers.specs.Room.{
   RisesAt,
   Frames,
 }
+use Rattle.machine.proofs.LentTables.{blockers-length}
 use Rattle.blockers.proofs.Closing.{AsLong, long-further, long-holds, put-long}
 use Rattle.blockers.proofs.Placing.{
-  blockers-length,
   stay-whole,
   even-holds,
   holds-fewer,

@@ -29,12 +29,6 @@ use Rattle.blockers.specs.Room.{HoldsRoom, tableOf, Placed, Put, over, C
 use Rattle.blockers.proofs.Over.{over-behind, over-drop}
 use Rattle.blockers.proofs.Closing.{AsLong, tables-within, same-blocker}
 
--- the blockers in use are as many as are held
-pub blockers-length : (room : BlockerRoom) (count at : ℕ) → length (blockersFrom room count at) ≡ count
-unfolding blockersFrom
-blockers-length room zero at = refl
-blockers-length room (suc count) at = ap suc (blockers-length room count (suc at))
-
 -- blockers behind a place, where the room is as before
 blockers-behind : (room room′ : BlockerRoom) (count at : ℕ) → ((i : ℕ) → at ≤ i → blockerAt room′ i ≡ blockerAt room i)
     → blockersFrom room′ count at ≡ blockersFrom room count at

@@ -1,14 +1,16 @@
 // The blocker room: three lent tables, masks, levels and the steps with which the blockers entered, of which the first `held` places are in use. What only
 // asks is lent masks and levels alone.
+pub mod reasons; // reasons.rt: why a case is blocked at a level
+
 ghost use mathlib.Core.Path.{_≡_};
-ghost use Prim.Native.Nat.{_+_, _-_, _≤_, _<_, min};
-ghost use lib.ListN.{length, getD};
+ghost use Prim.Native.Nat.{_+_, _≤_, _<_};
+ghost use lib.ListN.{length, getD, take, drop};
 ghost use lib.Dec.{leb, eqb};
 ghost use Rattle.lists.specs.Tests.{_and_, _or_, neg};
 ghost use Rattle.lists.specs.Lists.{any};
 ghost use Rattle.machine.specs.Machine.{covers as coversCase};
-ghost use Rattle.machine.specs.Lent.{roomOf, EvenRoom, unstampedRoom, blockerOf, blockerAt, blockersFrom, blockersIn};
-ghost use Rattle.blockers.specs.Room.{Holds, HoldsRoom, Put, ClosedUp, Cleared, Enters, RisesAt, Frames};
+ghost use Rattle.machine.specs.Lent.{roomOf, EvenRoom, blockerOf};
+ghost use Rattle.blockers.specs.Room.{HoldsRoom, Put, ClosedUp, Cleared, Enters, RisesAt, Frames};
 
 // A level's number.
 pub struct Level(pub u32);
@@ -44,93 +46,37 @@ fn both(a: bool, b: bool) -> bool
     a & b
 }
 
-// Whether one of two tests held.
-fn either(a: bool, b: bool) -> bool
-    ensures { λ r. ⌜ r ≡ a or b ⌝ }
+// Whether one of four tests held.
+fn one_of_four(a: bool, b: bool, c: bool, d: bool) -> bool
+    ensures { λ r. ⌜ r ≡ a or b or c or d ⌝ }
 {
-    a | b
+    a | b | (c | d)
 }
 
 // Whether the blocker, a mask with its level, is of level `least` or more and the case is a subset of it.
-pub fn covers(mask: u64, level: Level, least: Level, case: u64) -> bool
+fn covers(mask: u64, level: Level, least: Level, case: u64) -> bool
     ensures { λ r. ⌜ r ≡ coversCase (least .0) case (blockerOf mask (level .0)) ⌝ }
 {
     both(least.is_at_most(level), masks::subset(case, mask))
 }
 
-// The same of the blocker at a place.
-fn covers_at(masks: &[u64], levels: &[u32], place: usize, least: Level, case: u64) -> bool
-    requires { ⌜ (place < length (now masks)) × (place < length (now levels)) ⌝ }
-    ensures { λ r. ⌜ r ≡ coversCase (least .0) case (blockerAt (unstampedRoom (now (masks .entry)) (now (levels .entry))) place) ⌝ }
+// Whether one of the four places from `at` on holds this level.
+fn four_hold(levels: &[u32], at: usize, level: Level) -> bool
+    requires { ⌜ at + 4 ≤ length (now levels) ⌝ }
+    ensures { λ r. ⌜ r ≡ any (λ other. eqb other (level .0)) (take 4 (drop at (now (levels .entry)))) ⌝ }
 {
-    covers(masks[place], Level(levels[place]), least, case)
+    let first = Level(levels[at]).equals(level);
+    let second = Level(levels[at + 1]).equals(level);
+    let third = Level(levels[at + 2]).equals(level);
+    let fourth = Level(levels[at + 3]).equals(level);
+    one_of_four(first, second, third, fourth)
 }
 
-// Whether one of the four blockers from `at` on covers the case.
-fn four_cover(masks: &[u64], levels: &[u32], at: usize, level: Level, case: u64) -> bool
-    requires { ⌜ Holds (at + 4) (now masks) (now levels) ⌝ }
-    ensures { λ r. ⌜ r ≡ any (coversCase (level .0) case) (blockersFrom (unstampedRoom (now (masks .entry)) (now (levels .entry))) 4 at) ⌝ }
-{
-    let first = covers_at(masks, levels, at, level, case);
-    let second = covers_at(masks, levels, at + 1, level, case);
-    let third = covers_at(masks, levels, at + 2, level, case);
-    let fourth = covers_at(masks, levels, at + 3, level, case);
-    either(either(first, second), either(third, fourth))
-}
-
-// Whether one of the blockers from `from` on covers the case.
-fn covered_from(
-    masks: &[u64],
-    levels: &[u32],
-    held: usize,
-    from: usize,
-    level: Level,
-    case: u64,
-) -> bool
-    requires { ⌜ Holds held (now masks) (now levels) ⌝ }
-    ensures { λ r. ⌜ r ≡ any (coversCase (level .0) case) (blockersFrom (unstampedRoom (now (masks .entry)) (now (levels .entry))) (held - from) from) ⌝ }
+// Whether no place from `from` on holds this level.
+fn none_from(levels: &[u32], from: usize, level: Level) -> bool
+    ensures { λ r. ⌜ r ≡ neg (any (λ other. eqb other (level .0)) (drop from (now (levels .entry)))) ⌝ }
 {
     let mut i = from;
-    while i < held {
-        if covers_at(masks, levels, i, level, case) {
-            return true;
-        }
-        i += 1;
-    }
-    false
-}
-
-// How many blockers two tables have: the shorter says.
-fn count_in(masks: &[u64], levels: &[u32]) -> usize
-    ensures { λ r. ⌜ r ≡ min (length (now (masks .entry))) (length (now (levels .entry))) ⌝ }
-{
-    if masks.len() < levels.len() {
-        return masks.len();
-    }
-    levels.len()
-}
-
-// Whether the case is a subset of a blocker of this level or more. Four blockers are tested before one is asked for: a branch for each would keep
-// the compiler from testing them at once.
-pub fn covered(masks: &[u64], levels: &[u32], level: Level, case: u64) -> bool
-    ensures { λ r. ⌜ r ≡ any (coversCase (level .0) case) (blockersIn (now (masks .entry)) (now (levels .entry))) ⌝ }
-{
-    let held = count_in(masks, levels);
-    let mut i: usize = 0;
-    while 4 <= held - i {
-        if four_cover(masks, levels, i, level, case) {
-            return true;
-        }
-        i += 4;
-    }
-    covered_from(masks, levels, held, i, level, case)
-}
-
-// Whether no place holds this level.
-pub fn none_at(levels: &[u32], level: Level) -> bool
-    ensures { λ r. ⌜ r ≡ neg (any (λ other. eqb other (level .0)) (now (levels .entry))) ⌝ }
-{
-    let mut i: usize = 0;
     while i < levels.len() {
         if Level(levels[i]).equals(level) {
             return false;
@@ -138,6 +84,20 @@ pub fn none_at(levels: &[u32], level: Level) -> bool
         i += 1;
     }
     true
+}
+
+// Whether no place holds this level. Four are tested before a branch asks.
+pub fn none_at(levels: &[u32], level: Level) -> bool
+    ensures { λ r. ⌜ r ≡ neg (any (λ other. eqb other (level .0)) (now (levels .entry))) ⌝ }
+{
+    let mut i: usize = 0;
+    while 4 <= levels.len() - i {
+        if four_hold(levels, i, level) {
+            return false;
+        }
+        i += 4;
+    }
+    none_from(levels, i, level)
 }
 
 // The mask stands at the place, with its level and the step with which it entered.

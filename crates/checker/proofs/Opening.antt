@@ -13,11 +13,11 @@ use Rattle.machine.specs.Machine.{Pending, finalPending, openStep, oneMore, goe
 use Rattle.machine.specs.Lent.{BlockerRoom, unstampedRoom, blockersFrom, blockersIn}
 use Rattle.machine.specs.Runs.{numberOf, casesIn, symbolsIn}
 use Rattle.machine.specs.Records.{configurationOf, pendingOf, recordOf}
+use Rattle.machine.proofs.LentTables.{blockers-length}
 use Rattle.machine.proofs.Unstamped.{unstamped-blocks, same-finals}
 use Rattle.blockers.specs.Room.{Holds, tableOf}
 use Rattle.blockers.specs.declared.Level.{Level}
 use Rattle.blockers.proofs.Parts.{part-unstamped}
-use Rattle.blockers.proofs.Placing.{blockers-length}
 use Rattle.pending.specs.Room.{Holds as HoldsWord}
 use Rattle.checker.specs.declared.record.Run.{Run}
 use Rattle.checker.specs.Stage.{stage, madeBy, Ready, leftOf, countedOf, Leaves, Opened, Pends}

@@ -1,16 +1,21 @@
 -- What a step leaves where it touches only one of the rooms, and what the record's bounds give. Assumes nothing.
-use Prim.Native.Nat.{ℕ}
+use Prim.Native.Nat.{ℕ, _^_, _<_}
 use mathlib.Core.Path.{_≡_, refl, sym, ap, _∙_}
 use mathlib.Core.Bool.{Bool, true, false}
 use mathlib.Core.List.{List, [], _∷_}
 use native.Mathlib.Omega.{arith}
 use Rattle.lists.specs.Tests.{choose}
 use Rattle.machine.specs.Machine.{Blocker, Configuration, blocked, finalPending, Outcome, Next, ends, comesTo}
+use Rattle.machine.specs.Why.{why, isReason}
 use Rattle.machine.specs.Lent.{BlockerRoom, roomOf, pendingFirst, columnBack, placed}
 use Rattle.machine.specs.Runs.{numberOf, casesIn, symbolsIn, tablesAfter}
 use Rattle.machine.specs.Records.{configurationOf, pendingOf, recordOf, after}
+use Rattle.machine.proofs.LentTables.{blockers-length}
 use Rattle.blockers.specs.Room.{Holds, HoldsRoom, tableOf}
-use Rattle.blockers.proofs.Placing.{own-room, even-holds, blockers-length}
+use Rattle.blockers.specs.Answers.{reasonOf}
+use Rattle.blockers.specs.declared.reasons.Reason.{Reason}
+use Rattle.blockers.proofs.Placing.{own-room, even-holds}
+use Rattle.blockers.proofs.WhyBlocked.{blocked-told}
 use Rattle.pending.specs.Room.{Holds as HoldsWord, Placed as PlacedWord}
 use Rattle.checker.specs.declared.record.Run.{Run}
 use Rattle.checker.specs.Stage.{recordIn, stage, Ready, leftOf, Leaves, Pends}
@@ -60,14 +65,18 @@ pub placed-nothing : (before : List ℕ) → placed 0 [] before ≡ before
 unfolding placed
 placed-nothing before = refl
 
--- F alone: it becomes pending exactly if it is not blocked at the level
-module _ (initial finals : ℕ) (table : List Blocker) (level : ℕ) (b : Bool) (test : b ≡ blocked initial table level finals) where
-  pub final-blocked : (cases symbols : List ℕ) → b ≡ true → Pends 0 (finalPending initial (finals ∷ []) table level) 0 cases symbols cases symbols
+-- F alone: it becomes pending exactly if there is no reason why it is blocked at the level
+module _ (initial finals : ℕ) (table : List Blocker) (level : ℕ) (r : Reason) (told : Bool) (narrow : initial < 2 ^ 64)
+    (e : reasonOf r ≡ why initial table level finals) (tells : told ≡ isReason (reasonOf r)) where
+  test : told ≡ blocked initial table level finals
+  test = blocked-told initial table level finals r told narrow e tells
+
+  pub final-blocked : (cases symbols : List ℕ) → told ≡ true → Pends 0 (finalPending initial (finals ∷ []) table level) 0 cases symbols cases symbols
   unfolding finalPending choose columnBack
   final-blocked cases symbols t =
       rw (sym test ∙ t) (record { counted = refl; new-cases = sym (placed-nothing cases); new-symbols = sym (placed-nothing symbols) })
 
-  pub final-free : (cases symbols cases′ symbols′ : List ℕ) → b ≡ false
+  pub final-free : (cases symbols cases′ symbols′ : List ℕ) → told ≡ false
       → PlacedWord 0 (record { case = finals; symbol = 0 } ∷ pendingFirst cases symbols 0) cases symbols cases′ symbols′
       → Pends 0 (finalPending initial (finals ∷ []) table level) 1 cases symbols cases′ symbols′
   unfolding finalPending choose columnBack pendingFirst

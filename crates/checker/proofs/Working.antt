@@ -22,11 +22,10 @@ use Rattle.machine.specs.Machine.{Step, nonempty, goesOn, ends, judge}
 use Rattle.machine.specs.Lent.{BlockerRoom, blockersIn, pendingFirst}
 use Rattle.machine.specs.Runs.{systemOf, givenOf, roomsOf, numberOf, casesIn, symbolsIn}
 use Rattle.machine.specs.Records.{Stage, configurationOf, pendingOf, recordOf, after}
-use Rattle.machine.proofs.LentTables.{pending-length}
+use Rattle.machine.proofs.LentTables.{blockers-length, pending-length}
 use Rattle.machine.proofs.Unstamped.{same-qualifies}
 use Rattle.blockers.specs.Room.{tableOf}
 use Rattle.blockers.proofs.Parts.{part-alike}
-use Rattle.blockers.proofs.Placing.{blockers-length}
 use Rattle.choices.specs.Found.{ReadAs, foundOf}
 use Rattle.choices.specs.declared.Found.{Found}
 use Rattle.choices.specs.declared.Found.the-variants.{At, Nothing}

@@ -45,7 +45,7 @@ fn pend_final(
     requires { ⌜ HoldsWord 1 (now cases) (now symbols) ⌝ }
     ensures { λ r. ⌜ Pends 0 (finalPending initial (finals ∷ []) (blockersIn (now (masks .entry)) (now (levels .entry))) (level .0)) r (now (cases .entry)) (now (symbols .entry)) (now (cases .exit)) (now (symbols .exit)) ⌝ }
 {
-    if choices::blocked(initial, masks, levels, level, finals) {
+    if blockers::reasons::why(initial, masks, levels, level, finals).is_there() {
         return 0;
     }
     pending::push(cases, symbols, 0, finals, Symbol(0));

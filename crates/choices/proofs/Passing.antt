@@ -1,21 +1,26 @@
 -- Whether a set passes and whether a blocker rises, by the tests of the code. Assumes nothing.
-use Prim.Native.Nat.{ℕ, _≤_, _<_}
+use Prim.Native.Nat.{ℕ, _+_, _≤_, _<_}
 use mathlib.Core.Path.{_≡_, refl, sym, ap, _∙_}
 use mathlib.Core.Bool.{Bool, true, false, not}
 use mathlib.Core.List.{List}
 use borrow.Author.Tests.{not-true, not-false}
 use lib.Dec.{eqb}
 use Rattle.lists.specs.Tests.{_and_, neg}
+use Rattle.lists.specs.Lists.{eachFrom}
 use Rattle.masks.specs.Sets.{subset, within}
-use Rattle.automata.specs.Image.{statesOf, initialOf, rowsOf}
+use Rattle.automata.specs.Image.{statesOf, symbolsOf, initialOf, rowsOf}
 use Rattle.automata.specs.Automaton.{backward}
 use Rattle.automata.specs.declared.image.Head.{Head}
 use Rattle.machine.specs.System.{System}
 use Rattle.machine.specs.Machine.{Blocker, blocked, settled, passes, rises}
+use Rattle.machine.specs.Why.{why, isReason}
 use Rattle.machine.specs.Runs.{systemOf}
+use Rattle.blockers.specs.Answers.{reasonOf}
+use Rattle.blockers.specs.declared.reasons.Reason.{Reason}
+use Rattle.blockers.proofs.WhyBlocked.{blocked-told}
 use Rattle.choices.specs.Found.{ReadAs}
-use Rattle.choices.proofs.Blocking.{head-states, head-initial}
-use Rattle.choices.proofs.Symbols.{EachTried, each-fails, each-ends}
+use Rattle.choices.proofs.Blocking.{head-states, head-initial, initial-narrow}
+use Rattle.choices.proofs.Symbols.{EachTried, each-goes, each-fails, each-ends}
 
 -- joined tests fail where one of them does
 last-of-two : (a b : Bool) → b ≡ false → (a and b) ≡ false
@@ -75,12 +80,27 @@ pub rise-other : (S : System) (table : List Blocker) (level : ℕ) (blocker : Bl
 unfolding rises _and_
 rise-other S table level blocker same e n = sym (rw (← e, not-true same n))
 
+-- the test of the blocker's backward sets, by the reason why one is blocked
+module _ (image : List ℕ) (table : List Blocker) (level mask : ℕ) {head : Head} (read : ReadAs image head) (symbols s : ℕ)
+    (tried : EachTried image (blocked (head .initial) table level) mask symbols s) (P : ℕ) (r : Reason) (told : Bool) (l : s < symbols)
+    (back : P ≡ backward (rowsOf image s) mask) (e : reasonOf r ≡ why (head .initial) table level P) (tells : told ≡ isReason (reasonOf r)) where
+  is-blocked : told ≡ blocked (head .initial) table level P
+  is-blocked = blocked-told (head .initial) table level P r told (initial-narrow read) e tells
+
+  pub rise-goes : not told ≡ false → EachTried image (blocked (head .initial) table level) mask symbols (s + 1)
+  rise-goes n = each-goes tried P told l back is-blocked n
+
+  rise-fails : not told ≡ true → eachFrom (λ t. blocked (head .initial) table level (backward (rowsOf image t) mask)) (symbolsOf image) 0 ≡ false
+  rise-fails n = each-fails tried P told l back is-blocked n
+
 module _ (image : List ℕ) (table : List Blocker) (level : ℕ) (blocker : Blocker) {head : Head} (read : ReadAs image head) (symbols s : ℕ)
     (tried : EachTried image (blocked (head .initial) table level) (blocker .mask) symbols s) where
-  pub rise-unblocked : (P : ℕ) (b : Bool) → s < symbols → P ≡ backward (rowsOf image s) (blocker .mask)
-      → b ≡ blocked (head .initial) table level P → not b ≡ true → false ≡ rises (systemOf image) table level blocker
+  pub rise-unblocked : (P : ℕ) (r : Reason) (told : Bool) → s < symbols → P ≡ backward (rowsOf image s) (blocker .mask)
+      → reasonOf r ≡ why (head .initial) table level P → told ≡ isReason (reasonOf r) → not told ≡ true
+      → false ≡ rises (systemOf image) table level blocker
   unfolding rises
-  rise-unblocked P b l back e n = sym (last-of-two _ _ (rw (head-initial read) at (each-fails tried P b l back e n)))
+  rise-unblocked P r told l back e t n =
+      sym (last-of-two _ _ (rw (head-initial read) at (rise-fails image table level (blocker .mask) read symbols s tried P r told l back e t n)))
 
   pub rise-blocked : (same : Bool) → symbols ≤ s → same ≡ eqb (blocker .level) level → not same ≡ false
       → true ≡ rises (systemOf image) table level blocker

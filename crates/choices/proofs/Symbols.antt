@@ -1,29 +1,34 @@
 -- The loops over the symbols: the search for the first symbol that qualifies, with its walk over the blockers, and a test of each backward set.
 -- Assumes nothing.
-use Prim.Native.Nat.{ℕ, _+_, _-_, _≤_, _<_, min}
+use Prim.Native.Nat.{ℕ, _+_, _-_, _≤_, _<_}
 use mathlib.Core.Path.{_≡_, refl, sym, ap, _∙_}
 use mathlib.Core.Bool.{Bool, true, false, not}
-use mathlib.Core.List.{List}
+use mathlib.Core.List.{List, [], _∷_}
 use native.Mathlib.Nat.{sub-zero}
 use native.Mathlib.Omega.{arith}
 use borrow.Author.Tests.{not-true, not-false}
 use lib.Dec.{eqb}
 use lib.ListN.{length}
 use Rattle.lists.specs.Tests.{neg}
-use Rattle.lists.specs.Lists.{any, firstFrom, eachFrom}
+use Rattle.lists.specs.Lists.{firstFrom, eachFrom}
 use Rattle.lists.proofs.Lists.{first-from-here, first-from-later, first-from-nowhere, each-from-fails, each-from-holds, each-from-ends}
-use Rattle.masks.specs.Sets.{subset}
+use Rattle.masks.specs.Sets.{subset, lowestAbsent}
 use Rattle.automata.specs.Image.{symbolsOf, initialOf, rowsOf}
 use Rattle.automata.specs.Automaton.{backward}
 use Rattle.automata.specs.declared.image.Head.{Head}
-use Rattle.machine.specs.Machine.{Blocker, covers, settled, qualifies}
-use Rattle.machine.specs.Lent.{blockerAt, blockersFrom, unstampedRoom, blockersIn}
+use Rattle.machine.specs.Machine.{settled, qualifies}
+use Rattle.machine.specs.Lent.{blockerAt, unstampedRoom, blockersIn}
+use Rattle.machine.specs.Why.{firstCovering, absentReason, why, isReason}
 use Rattle.machine.specs.Runs.{systemOf}
-use Rattle.blockers.proofs.Walks.{CoverSearched, cover-starts, cover-here, cover-goes, cover-nowhere}
+use Rattle.blockers.specs.Answers.{reasonOf, Misses}
+use Rattle.blockers.specs.declared.reasons.Reason.{Reason}
+use Rattle.blockers.specs.declared.reasons.Reason.the-variants.{Nothing as NoReason}
+use Rattle.blockers.proofs.Walks.{Walked, walk-starts, walk-finds, walk-goes, walk-ends}
+use Rattle.blockers.proofs.WhyBlocked.{why-bottom, why-above}
 use Rattle.choices.specs.Found.{ReadAs, foundOf}
 use Rattle.choices.specs.declared.Found.{Found}
 use Rattle.choices.specs.declared.Found.the-variants.{At, Nothing}
-use Rattle.choices.proofs.Blocking.{blocked-bottom, blocked-above, settled-inside, settled-blocked, head-symbols, head-initial}
+use Rattle.choices.proofs.Blocking.{settled-inside, settled-told, head-symbols, head-initial, initial-narrow}
 
 -- whether a symbol can extend X, and the first that can
 abbrev extending : List ℕ → List ℕ → List ℕ → ℕ → ℕ → ℕ → Bool
@@ -47,21 +52,17 @@ tried-none {image} {head} {masks} {levels} {below} {X} read = record {
 -- the walk over the blockers for one symbol, before place i; the walk leaves the symbol as it is
 pub record BlockersTried (masks levels : List ℕ) (below P symbol s i : ℕ) : Type 0 where
   pub same : s ≡ symbol
-  pub searched : CoverSearched masks levels (length masks) 0 below P i
+  pub walked : Walked masks levels (length masks) below P i
 
-pub walk-starts : {masks levels : List ℕ} {below P s : ℕ} → BlockersTried masks levels below P s s 0
-walk-starts = record { same = refl; searched = cover-starts }
+pub tried-starts : {masks levels : List ℕ} {below P s i : ℕ} → length masks ≡ length levels → Misses masks levels below P i
+    → BlockersTried masks levels below P s s i
+tried-starts paired misses = record { same = refl; walked = walk-starts (omega arith) misses }
 
-pub walk-goes : {masks levels : List ℕ} {below P symbol s i : ℕ} → BlockersTried masks levels below P symbol s i
-    → (b : Bool) → i < length masks → b ≡ covers below P (blockerAt (unstampedRoom masks levels) i) → b ≡ false → BlockersTried masks levels below P symbol s (i + 1)
-walk-goes walk b l e f = record { same = walk .same; searched = cover-goes (walk .searched) b l e f }
-
--- the walk over tables of one length is over all their blockers
-walked-all : (test : Blocker → Bool) (masks levels : List ℕ) → length masks ≡ length levels
-    → any test (blockersFrom (unstampedRoom masks levels) (length masks - 0) 0) ≡ any test (blockersIn masks levels)
-walked-all test masks levels e =
-    let all : length masks - 0 ≡ min (length masks) (length levels) = omega arith in
-    ap (λ (count : ℕ). any test (blockersFrom (unstampedRoom masks levels) count 0)) all
+pub tried-goes : {masks levels : List ℕ} {below P symbol s i : ℕ} → BlockersTried masks levels below P symbol s i
+    → (here : Reason) (told : Bool) → i < length masks
+    → reasonOf here ≡ firstCovering below P i (blockerAt (unstampedRoom masks levels) i ∷ []) → told ≡ isReason (reasonOf here) → told ≡ false
+    → BlockersTried masks levels below P symbol s (i + 1)
+tried-goes walk here told l e t f = record { same = walk .same; walked = walk-goes (walk .walked) here told l e t f }
 
 module _ {image masks levels : List ℕ} {below X symbols s : ℕ} (tried : SymbolsTried image masks levels below X symbols s) where
   pub symbol-known : s < symbols → s < symbolsOf image
@@ -91,32 +92,39 @@ module _ {image masks levels : List ℕ} {below X symbols s : ℕ} (tried : Symb
       pub try-inside : inside ≡ true → SymbolsTried image masks levels below X symbols (s + 1)
       try-inside t = goes (settled-inside _ _ _ _ _ inside test t)
 
-      module _ (outside : inside ≡ false) (bottom : Bool) (at-bottom : bottom ≡ eqb below 0) where
-        module _ {head : Head} (read : ReadAs image head) (contains : Bool) (initial : contains ≡ subset (head .initial) P) (low : bottom ≡ true) where
-          by-initial : not contains ≡ settled (initialOf image) (blockersIn masks levels) below X P
-          by-initial =
-              let starts : contains ≡ subset (initialOf image) P = initial ∙ ap (λ (I : ℕ). subset I P) (head-initial read) in
-              settled-blocked _ _ _ _ _ inside test _ (blocked-bottom _ _ _ _ bottom at-bottom contains starts low) outside
+      module _ {head : Head} (read : ReadAs image head) (outside : inside ≡ false) (bottom : Bool) (at-bottom : bottom ≡ eqb below 0) where
+        -- by the reason why the backward set is blocked, where it is not inside X
+        by-reason : (r : Reason) (told : Bool) → reasonOf r ≡ why (head .initial) (blockersIn masks levels) below P → told ≡ isReason (reasonOf r)
+            → told ≡ settled (initialOf image) (blockersIn masks levels) below X P
+        by-reason r told e t =
+            settled-told (head .initial) (blockersIn masks levels) below X P inside test r told (initial-narrow read) e t outside
+            ∙ ap (λ (I : ℕ). settled I (blockersIn masks levels) below X P) (head-initial read)
 
-          pub try-short : contains ≡ false → SymbolsTried image masks levels below X symbols (s + 1)
-          try-short f = goes (sym (ap not f) ∙ by-initial)
+        module _ (r : Reason) (told : Bool) (low : bottom ≡ true) (start : reasonOf r ≡ absentReason (lowestAbsent (head .initial) P))
+            (tells : told ≡ isReason (reasonOf r)) where
+          by-initial : told ≡ settled (initialOf image) (blockersIn masks levels) below X P
+          by-initial = by-reason r told (why-bottom (head .initial) (blockersIn masks levels) below P bottom at-bottom r low start) tells
 
-          pub find-bottom : contains ≡ true → At (record { 0 = s }) P ≡ firstFound image masks levels below X
-          find-bottom t = finds (sym (ap not t) ∙ by-initial)
+          pub try-lacking : told ≡ true → SymbolsTried image masks levels below X symbols (s + 1)
+          try-lacking t = goes (sym t ∙ by-initial)
 
-        module _ {now i : ℕ} (walk : BlockersTried masks levels below P s now i) (paired : length masks ≡ length levels) (high : bottom ≡ false) where
-          by-blockers : (b : Bool) → b ≡ any (covers below P) (blockersFrom (unstampedRoom masks levels) (length masks - 0) 0)
-              → b ≡ settled (initialOf image) (blockersIn masks levels) below X P
-          by-blockers b e =
-              let all : b ≡ any (covers below P) (blockersIn masks levels) = e ∙ walked-all (covers below P) masks levels paired in
-              settled-blocked _ _ _ _ _ inside test b (blocked-above _ _ _ _ bottom at-bottom b all high) outside
+          pub find-bottom : told ≡ false → At (record { 0 = s }) P ≡ firstFound image masks levels below X
+          find-bottom f = finds (sym f ∙ by-initial)
 
-          pub try-covered : (b : Bool) → i < length masks → b ≡ covers below P (blockerAt (unstampedRoom masks levels) i) → b ≡ true
+        module _ {now i : ℕ} (walk : BlockersTried masks levels below P s now i) (high : bottom ≡ false) where
+          by-blockers : (r : Reason) (told : Bool) → reasonOf r ≡ firstCovering below P 0 (blockersIn masks levels) → told ≡ isReason (reasonOf r)
+              → told ≡ settled (initialOf image) (blockersIn masks levels) below X P
+          by-blockers r told e = by-reason r told (why-above (head .initial) (blockersIn masks levels) below P bottom at-bottom r high e)
+
+          pub try-covered : (here : Reason) (told : Bool) → i < length masks
+              → reasonOf here ≡ firstCovering below P i (blockerAt (unstampedRoom masks levels) i ∷ []) → told ≡ isReason (reasonOf here) → told ≡ true
               → SymbolsTried image masks levels below X symbols (now + 1)
-          try-covered b h e t = rw (walk .same) (goes (by-blockers true (cover-here (walk .searched) b h e t)))
+          try-covered here told h e t y =
+              rw (walk .same) (goes (sym y ∙ by-blockers here told (walk-finds (walk .walked) here told h e t y) t))
 
           pub find-open : length masks ≤ i → At (record { 0 = s }) P ≡ firstFound image masks levels below X
-          find-open h = finds (by-blockers false (cover-nowhere (walk .searched) h))
+          unfolding reasonOf isReason
+          find-open h = finds (by-blockers NoReason false (walk-ends (walk .walked) h) refl)
 
 -- the test of the backward set of Y by each symbol, before symbol s: it held so far, and the symbols from s on are left
 pub record EachTried (image : List ℕ) (test : ℕ → Bool) (Y symbols s : ℕ) : Type 0 where

@@ -4,13 +4,14 @@ use automata::backward::backward;
 use automata::image::Head;
 use automata::image::Symbol;
 use blockers::Level;
+use blockers::reasons;
 use masks::State;
 ghost use mathlib.Core.Path.{_≡_};
 ghost use Prim.Native.Nat.{_<_};
 ghost use lib.ListN.{length};
 ghost use Rattle.lists.specs.Lists.{firstFrom};
 ghost use Rattle.automata.specs.Image.{symbolsOf};
-ghost use Rattle.machine.specs.Machine.{blocked as isBlocked, settled as isSettled, qualifies, passes as passesTest, withState, byStates};
+ghost use Rattle.machine.specs.Machine.{settled as isSettled, qualifies, passes as passesTest, withState, byStates};
 ghost use Rattle.machine.specs.Machine.{chosenFrom, hintAt, rises as risesTest};
 ghost use Rattle.machine.specs.Lent.{blockerAt, unstampedRoom, blockersIn};
 ghost use Rattle.machine.specs.Runs.{systemOf};
@@ -26,16 +27,6 @@ pub enum Found {
 pub struct Choice {
     pub mask: u64,
     pub hinted: u64,
-}
-
-// Whether the case is blocked at the level.
-pub fn blocked(initial: u64, masks: &[u64], levels: &[u32], level: Level, case: u64) -> bool
-    ensures { λ r. ⌜ r ≡ isBlocked initial (blockersIn (now (masks .entry)) (now (levels .entry))) (level .0) case ⌝ }
-{
-    if level.equals(Level(0)) {
-        return !masks::subset(initial, case);
-    }
-    blockers::covered(masks, levels, level, case)
 }
 
 // The first symbol, from 0 upward, that can extend the pending case x, with its backward set.
@@ -59,14 +50,14 @@ pub fn first_symbol(
             continue 'symbols;
         }
         if below.equals(Level(0)) {
-            if masks::subset(head.initial, p) {
-                return Found::At(symbol, p);
+            if reasons::lowest_initial(head.initial, p).is_there() {
+                continue 'symbols;
             }
-            continue 'symbols;
+            return Found::At(symbol, p);
         }
-        let mut i: usize = 0;
+        let mut i = reasons::leading_misses(masks, levels, below, p);
         while i < masks.len() {
-            if blockers::covers(masks[i], Level(levels[i]), below, p) {
+            if reasons::reason_at(masks, levels, i, below, p).is_there() {
                 continue 'symbols;
             }
             i += 1;
@@ -83,7 +74,7 @@ fn settled(initial: u64, masks: &[u64], levels: &[u32], below: Level, y: u64, p:
     if masks::subset(p, y) {
         return true;
     }
-    blocked(initial, masks, levels, below, p)
+    reasons::why(initial, masks, levels, below, p).is_there()
 }
 
 // Whether y passes: it may take the place of x as what blocks x one level above `below`.
@@ -208,7 +199,7 @@ pub fn rises(
     let mut symbol = Symbol(0);
     while symbol.0 < head.symbols {
         let p = backward(image, symbol, mask);
-        if !blocked(head.initial, masks, levels, level, p) {
+        if !reasons::why(head.initial, masks, levels, level, p).is_there() {
             return false;
         }
         symbol = Symbol(symbol.0 + 1);

@@ -14,7 +14,7 @@ use Rattle.machine.specs.System.{System}
 use Rattle.machine.specs.Machine.{Blocker, leaves, staying, rises, risen, riseAlong}
 use Rattle.machine.specs.Lent.{BlockerRoom, roomOf, blockerAt, blockersFrom, unstampedRoom, blockersIn}
 use Rattle.blockers.specs.Room.{HoldsRoom, tableOf, RisesAt}
-use Rattle.blockers.proofs.Walks.{next-blocker, no-blocker}
+use Rattle.blockers.proofs.Walks.{next-blocker, no-blocker, blockers-split}
 use Rattle.blockers.proofs.Changes.{risen-passed, risen-ahead}
 use Rattle.blockers.proofs.Parts.{part-rises}
 use Rattle.closing.specs.Close.{risenAt, Becomes}
@@ -90,19 +90,6 @@ module _ (S : System) (j : ℕ) (passed : List Blocker) where
         → along S j passed (blocker ∷ ahead) ≡ along S j (passed ++ blocker ∷ []) ahead
     unfolding along
     along-stays e = turn-stays S (length ahead) j passed blocker ahead e
-
--- blockers and those right behind them
-blockers-split : (room : BlockerRoom) (first second at : ℕ)
-    → blockersFrom room first at ++ blockersFrom room second (at + first) ≡ blockersFrom room (first + second) at
-unfolding blockersFrom
-blockers-split room zero second at =
-    let e : second ≡ zero + second = omega arith in
-    let s : at + zero ≡ at = omega arith in
-    ap (λ (k : ℕ). blockersFrom room second k) s ∙ ap (λ (k : ℕ). blockersFrom room k at) e
-blockers-split room (suc first) second at =
-    let e : at + suc first ≡ suc at + first = omega arith in
-    let s : suc first + second ≡ suc (first + second) = omega arith in
-    rw (e, s) (ap (λ (rest : List Blocker). blockerAt room at ∷ rest) (blockers-split room first second (suc at)))
 
 -- the table as it stands, apart at a place
 table-apart : (room : BlockerRoom) (held place : ℕ) → place < held

@@ -6,10 +6,10 @@ use native.Mathlib.Omega.{arith}
 use lib.ListN.{length, take}
 use Rattle.machine.specs.Machine.{Blocker}
 use Rattle.machine.specs.Lent.{BlockerRoom, roomOf, column, placed, withTable}
-use Rattle.machine.proofs.LentTables.{column-length, placed-placed, tables-same}
+use Rattle.machine.proofs.LentTables.{blockers-length, column-length, placed-placed, tables-same}
 use Rattle.blockers.specs.Room.{HoldsRoom, tableOf}
 use Rattle.blockers.proofs.Closing.{AsLong, long-itself, long-further, long-holds}
-use Rattle.blockers.proofs.Placing.{blockers-length, holds-fewer, own-room, placed-long, placed-table}
+use Rattle.blockers.proofs.Placing.{holds-fewer, own-room, placed-long, placed-table}
 use Rattle.blockers.proofs.Parts.{part-levels}
 use Rattle.closing.specs.Close.{Becomes}
 

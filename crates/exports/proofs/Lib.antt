@@ -1,3 +1,4 @@
 -- Laws of what the C interface gives back.
 pub mod Heads
 pub mod Runs
+pub mod Reasons

@@ -1,12 +1,15 @@
 // The library's functions for C and Rust, as include/afa.h declares them.
 use automata::image::Image;
+use blockers::Level;
+use blockers::reasons::Reason;
 ghost use mathlib.Core.Path.{_≡_};
 ghost use Rattle.automata.specs.Answers.{readImage, imageNumber, headAfter};
 ghost use Rattle.automata.specs.WordTest.{wordTest};
-ghost use Rattle.machine.specs.Lent.{roomOf};
+ghost use Rattle.machine.specs.Lent.{roomOf, blockersIn};
+ghost use Rattle.machine.specs.Why.{why};
 ghost use Rattle.machine.specs.Runs.{runOf};
 ghost use Rattle.checker.specs.Stage.{lentOf, termsOf};
-ghost use Rattle.exports.specs.Interface.{Ran};
+ghost use Rattle.exports.specs.Interface.{Ran, Told};
 
 // 0, and n, k, m, I and F in `head`; or the refusing number, and `head` as it was.
 #[no_mangle]
@@ -70,4 +73,34 @@ pub extern "C" fn afa_run(
         made.accepted,
     ];
     made.number
+}
+
+// Why the case is blocked at the level: 1 with the place and the level of the first covering blocker in `found`, or 2 with the lowest initial state absent
+// and 0; or 0 with two zeros where it is not blocked there. No blocker's level is above 2^32 - 1.
+#[no_mangle]
+pub extern "C" fn afa_why(
+    initial: u64,
+    masks: &[u64],
+    levels: &[u32],
+    level: u64,
+    case: u64,
+    found: &mut [u64; 2],
+) -> u64
+    ensures { λ r. ⌜ Told r (now (found .exit)) (why initial (blockersIn (now (masks .entry)) (now (levels .entry))) level case) ⌝ }
+{
+    *found = [0, 0];
+    if 4294967295 < level {
+        return 0;
+    }
+    match blockers::reasons::why(initial, masks, levels, Level(level as u32), case) {
+        Reason::Nothing => 0,
+        Reason::ByBlocker(place, its) => {
+            *found = [place as u64, its.0 as u64];
+            1
+        }
+        Reason::ByStart(q) => {
+            *found = [q.0 as u64, 0];
+            2
+        }
+    }
 }

@@ -13,7 +13,7 @@ use lib.ListN.{length, getD, drop, drop-of-length-le}
 use lib.Seq.{drop-cons}
 use Rattle.lists.specs.Tests.{_and_, _or_, choose}
 use Rattle.lists.specs.Lists.{_∈_, here, there, Each, any, all, keep, firstFrom, eachFrom}
-use Rattle.lists.proofs.Tests.{holds, fails, and-left, and-right, and-both, or-cases, or-left, or-right, decide}
+use Rattle.lists.proofs.Tests.{holds, fails, and-left, and-right, and-both, or-cases, or-left, or-right, or-joined, decide}
 
 -- the first element for which the test holds
 unfoldable pub firstOf : {A : Type 0} → (A → Bool) → List A → Option A
@@ -120,6 +120,13 @@ module _ {A : Type 0} where
       at (inl t) (inr r) = inr (record { element = r .element; listed = there (r .listed); fails = r .fails })
       at (inr f) r = inr (record { element = y; listed = here refl; fails = f })
 
+  -- any: of two lists joined
+  pub any-append : (test : A → Bool) (a b : List A) → any test (a ++ b) ≡ any test a or any test b
+  unfolding any _or_
+  any-append test [] b = refl
+  any-append test (x ∷ a) b =
+      ap (λ (later : Bool). test x or later) (any-append test a b) ∙ or-joined (test x) (any test a) (any test b)
+
   -- keep: exactly the elements for which the test holds
   pub keep-in : (test : A → Bool) (l : List A) {x : A} → x ∈ keep test l → x ∈ l × T (test x)
   unfolding keep choose
@@ -207,6 +214,42 @@ first-from-some test (suc count) start {s} e = at (λ q. first-from-some test co
         → choose b (some start) (firstFrom test count (suc start)) ≡ some s → (start ≤ s) × (s < start + suc count) × T (test s)
     at rec true q e′ = let p : start ≡ s = cc in (omega arith, omega arith, rw (← p) (holds q))
     at rec false q e′ = let r = rec e′ in (omega arith, omega arith, r .2)
+
+-- the answer is the first that has it
+pub first-from-before : (test : ℕ → Bool) (count start : ℕ) {s : ℕ} → firstFrom test count start ≡ some s → (p : ℕ) → start ≤ p → p < s → T (test p) → ⊥
+unfolding firstFrom choose
+first-from-before test zero start e p l h t = let z : _≡_ {A = ℕ} 0 1 = cc in omega arith
+first-from-before test (suc count) start {s} e p l h t = at (λ q k. first-from-before test count (suc start) q p k h t) (test start) refl e
+  where
+    at : (firstFrom test count (suc start) ≡ some s → suc start ≤ p → ⊥) → (b : Bool) → test start ≡ b
+        → choose b (some start) (firstFrom test count (suc start)) ≡ some s → ⊥
+    at rec true q e′ = let r : start ≡ s = cc in omega arith
+    at rec false q e′ = near (ℕ-discrete start p)
+      where
+        near : Dec (start ≡ p) → ⊥
+        near (yes r) = fails q (rw r t)
+        near (no r) = rec e′ (omega arith)
+
+-- and the first that has it is the answer
+pub first-from-least : (test : ℕ → Bool) (count start s : ℕ) → start ≤ s → s < start + count → T (test s)
+    → ((p : ℕ) → start ≤ p → p < s → T (test p) → ⊥) → firstFrom test count start ≡ some s
+unfolding firstFrom choose
+first-from-least test zero start s l h t f = absurd (omega arith)
+first-from-least test (suc count) start s l h t f =
+    at (λ k. first-from-least test count (suc start) s k (omega arith) t (λ p m. f p (omega arith))) (test start) refl
+  where
+    at : (suc start ≤ s → firstFrom test count (suc start) ≡ some s) → (b : Bool) → test start ≡ b
+        → choose b (some start) (firstFrom test count (suc start)) ≡ some s
+    at rec true q = near (ℕ-discrete start s)
+      where
+        near : Dec (start ≡ s) → some start ≡ some s
+        near (yes e) = ap (λ (x : ℕ). some x) e
+        near (no n) = absurd (f start (omega arith) (omega arith) (holds q))
+    at rec false q = near (ℕ-discrete start s)
+      where
+        near : Dec (start ≡ s) → firstFrom test count (suc start) ≡ some s
+        near (yes e) = absurd (fails q (rw e t))
+        near (no n) = rec (omega arith)
 
 -- eachFrom: the test holds of each of the numbers
 pub each-from-at : (test : ℕ → Bool) (count start : ℕ) → T (eachFrom test count start) → (s : ℕ) → start ≤ s → s < start + count → T (test s)

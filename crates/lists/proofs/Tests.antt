@@ -54,6 +54,21 @@ unfolding _or_
 or-right true b t = tt
 or-right false b t = t
 
+pub or-joined : (a b c : Bool) → a or b or c ≡ (a or b) or c
+unfolding _or_
+or-joined true b c = refl
+or-joined false b c = refl
+
+pub or-neither : (a b : Bool) → a or b ≡ false → (a ≡ false) × (b ≡ false)
+unfolding _or_
+or-neither true b e = absurd (fails e tt)
+or-neither false b e = (refl, e)
+
+pub or-none : (b : Bool) → b or false ≡ b
+unfolding _or_
+or-none true = refl
+or-none false = refl
+
 pub neg-fails : (b : Bool) → T (neg b) → T b → ⊥
 unfolding neg
 neg-fails true s t = s

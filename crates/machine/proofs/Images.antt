@@ -1,11 +1,10 @@
 -- The backward system of a valid image: it is lawful, it accepts the words that runs accept, and one automaton gives one language. Assumes nothing.
 use Prim.Native.Nat.{ℕ, _<_}
 use mathlib.Core.Path.{_≡_, refl, sym, ap, subst, _∙_}
-use mathlib.Core.Bool.{Bool, true, false}
 use mathlib.Core.List.{List, [], _∷_}
 use mathlib.Core.Logic.{_⊎_, inl, inr, _↔_}
 use lib.Dec.{T}
-use Rattle.lists.specs.Tests.{_or_}
+use Rattle.lists.proofs.Tests.{or-none}
 use Rattle.lists.specs.Lists.{_∈_, any}
 use Rattle.lists.proofs.Lists.{in-none, in-cases}
 use Rattle.masks.specs.Sets.{subset, within}
@@ -40,11 +39,6 @@ taken-same : (image word : List ℕ) (X : ℕ) → takenBack (systemOf image) wo
 unfolding takenBack takenBackBy
 taken-same image [] X = refl
 taken-same image (s ∷ word) X = ap (backward (rowsOf image s)) (taken-same image word X)
-
-or-none : (b : Bool) → b or false ≡ b
-unfolding _or_
-or-none true = refl
-or-none false = refl
 
 pub system-accepts : (image word : List ℕ) → accepts (systemOf image) word ≡ acceptsBack (automatonOf image) word
 unfolding accepts acceptsBack any

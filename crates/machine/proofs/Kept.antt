@@ -3,6 +3,8 @@ use Rattle.machine.specs.Promises.{Promises}
 use Rattle.automata.proofs.Reading.{reading-refused, reading-refused-values, reading-valid, reading-valid-values}
 use Rattle.machine.proofs.WordTests.{refuses-image, refuses-symbol, says-yes, says-no, same-answer}
 use Rattle.machine.proofs.RunsKept.{run-promises, runs-agree, block-unpends, entered-in-order}
+use Rattle.machine.proofs.Reasons.{why-tells}
+use Rattle.machine.proofs.LentTables.{blockers-length}
 
 pub kept : Promises
 kept = record {
@@ -19,4 +21,6 @@ kept = record {
   runs-agree = runs-agree;
   block-unpends = block-unpends;
   entered-in-order = entered-in-order;
+  why-tells = why-tells;
+  shorter-counts = λ masks levels. blockers-length _ _ _;
 }

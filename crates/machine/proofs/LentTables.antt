@@ -38,6 +38,12 @@ use Rattle.machine.specs.Lent.{
   withTable,
 }
 
+-- as many blockers are read as are asked for
+pub blockers-length : (room : BlockerRoom) (count at : ℕ) → length (blockersFrom room count at) ≡ count
+unfolding blockersFrom
+blockers-length room zero at = refl
+blockers-length room (suc count) at = ap suc (blockers-length room count (suc at))
+
 -- a column is as long as what it is of
 pub column-length : {A : Type 0} (field : A → ℕ) (entries : List A) → length (column field entries) ≡ length entries
 unfolding column

@@ -16,6 +16,7 @@ pub mod Driving
 pub mod Unpending
 pub mod LentTables
 pub mod Unstamped
+pub mod Reasons
 pub mod WordTests
 pub mod Images
 pub mod Judging

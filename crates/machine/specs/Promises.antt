@@ -1,19 +1,22 @@
 -- The promises: each sentence of the demands as one statement, over the definitions that the contracts cite. That all of them are kept is
 -- `Rattle.machine.proofs.Kept.kept`. Assumes nothing: these are statements.
-use Prim.Native.Nat.{ℕ, suc, _-_, _^_, _≤_, _<_}
+use Prim.Native.Nat.{ℕ, suc, _-_, _^_, _≤_, _<_, min}
 use mathlib.Core.Path.{_≡_}
 use mathlib.Core.List.{List, [], _∷_, _++_}
 use mathlib.Core.Logic.{_↔_, _⊎_}
+use lib.Dec.{T}
 use lib.ListN.{length, replicate}
 use Rattle.lists.specs.Lists.{_∈_, Each}
+use Rattle.masks.specs.Sets.{within}
 use Rattle.automata.specs.Image.{Valid, checkImage, statesOf, symbolsOf, rowCountOf, initialOf, finalOf}
 use Rattle.automata.specs.Automaton.{automatonOf, HoldOne}
 use Rattle.automata.specs.Acceptance.{Accepted}
 use Rattle.automata.specs.WordTest.{wordTest}
 use Rattle.automata.specs.Answers.{readImage, imageNumber, headAfter}
-use Rattle.machine.specs.Machine.{Blocker, Pending, Configuration, Rooms, Outcome, ends, begin, blocks, step}
+use Rattle.machine.specs.Machine.{Blocker, Pending, Configuration, Rooms, Outcome, ends, begin, blocks, step, blocked}
 use Rattle.machine.specs.Meaning.{Closed, EnteredInOrder, WorksIn, EndedBy}
-use Rattle.machine.specs.Lent.{blockersFrom, column, eachTable}
+use Rattle.machine.specs.Why.{Reason, byBlocker, byStart, nothing, why, FirstCovering, LowestAbsent}
+use Rattle.machine.specs.Lent.{blockersFrom, blockersIn, column, eachTable}
 use Rattle.machine.specs.Runs.{Lent, Terms, Result, systemOf, roomsOf, givenOf, endOf, resultOf, checkRun, runOf}
 
 -- a symbol of the word is k or above
@@ -96,6 +99,15 @@ pub record RunPromises (image : List ℕ) (lent : Lent) (terms : Terms) (r : Res
       → 2 ^ statesOf image ≤ length (lent .cases) → 4 ^ suc (statesOf image) ≤ terms .allowance
       → Decides image lent terms (4 ^ suc (statesOf image)) r
 
+-- 02, 2: the promises of the answer why a case X is blocked at level i
+pub record WhyPromises (initial : ℕ) (table : List Blocker) (i X : ℕ) (answer : Reason) : Type 0 where
+  -- "the place, from 0, of the first covering blocker in table order and its level"
+  pub by-blocker : (place level : ℕ) → answer ≡ byBlocker place level → (1 ≤ i) × FirstCovering table i X place level
+  -- "at level 0, the lowest initial state absent"
+  pub by-start : (q : ℕ) → answer ≡ byStart q → (i ≡ 0) × LowestAbsent initial X q
+  -- "none exactly if the case isn't blocked there"
+  pub none-exactly : (answer ≡ nothing) ↔ (T (blocked initial table i X) → ⊥)
+
 -- two runs that reached a verdict: the same one, and words of the same length
 pub record Agreed (r s : Result) : Type 0 where
   pub verdict : r .number ≡ s .number
@@ -130,3 +142,7 @@ pub record Promises : Type 0 where
   -- 02, 10, of every table that a run comes to on its way
   pub entered-in-order : (image : List ℕ) (rooms : Rooms) (terms : Terms) (c : Configuration) → Valid image
       → WorksIn (systemOf image) rooms (givenOf image terms) c → EnteredInOrder 0 (c .steps) (c .table)
+  -- 02, 2: why a case is blocked at a level, for every table; I is a mask, which has 64 bits
+  pub why-tells : (initial : ℕ) (table : List Blocker) (i X : ℕ) → T (within 64 initial) → WhyPromises initial table i X (why initial table i X)
+  -- "Of masks and levels of unlike length, the shorter table says how many blockers there are."
+  pub shorter-counts : (masks levels : List ℕ) → length (blockersIn masks levels) ≡ min (length masks) (length levels)

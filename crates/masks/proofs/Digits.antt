@@ -1,11 +1,13 @@
--- Binary digits of a number: what `bitAnd` and `bitOr` do to each, the digits of a power of two, and that they determine the number. Assumes nothing.
+-- Binary digits of a number: what `bitAnd`, `bitOr` and `bitXor` do to each, the digits of a power of two, that they determine the number, and the lowest
+-- that is set. Assumes nothing.
 use Prim.Native.Nat.{ℕ, zero, suc, _/_, _%_, _^_, _<_, min, max}
 use mathlib.Core.Path.{_≡_, refl, sym, ap, _∙_}
 use native.Mathlib.Nat.{pow-suc, zero-div}
 use native.Mathlib.Numerals.{one-add}
 use native.Mathlib.Omega.{arith}
 use lib.Arith.{bin-ind, digits-mod}
-use lib.Bits.{bitAnd, bitOr, and-step, or-step, and-shr, or-shr}
+use lib.Bits.{bitAnd, bitOr, bitXor, differ, and-step, or-step, xor-step, and-shr, or-shr, xor-shr}
+use lib.Count.{trailingZeros, under}
 use lib.Pow.{shr-shr}
 use Rattle.masks.specs.Sets.{digit}
 
@@ -18,6 +20,17 @@ pub digit-or : (a b q : ℕ) → digit (bitOr a b) q ≡ max (digit a q) (digit 
 digit-or a b q =
     ap (λ (x : ℕ). x % 2) (or-shr a b q ∙ or-step (a / 2 ^ q) (b / 2 ^ q))
     ∙ digits-mod (bitOr (a / 2 ^ q / 2) (b / 2 ^ q / 2)) (omega arith)
+
+differ-digit : (x y : ℕ) → x < 2 → y < 2 → differ x y < 2
+differ-digit zero y hx hy = hy
+differ-digit (suc zero) zero hx hy = omega arith
+differ-digit (suc zero) (suc y) hx hy = omega arith
+differ-digit (suc (suc x)) y hx hy = absurd (omega arith)
+
+pub digit-xor : (a b q : ℕ) → digit (bitXor a b) q ≡ differ (digit a q) (digit b q)
+digit-xor a b q =
+    ap (λ (x : ℕ). x % 2) (xor-shr a b q ∙ xor-step (a / 2 ^ q) (b / 2 ^ q))
+    ∙ digits-mod (bitXor (a / 2 ^ q / 2) (b / 2 ^ q / 2)) (differ-digit (digit a q) (digit b q) (omega arith) (omega arith))
 
 pub digit-suc : (a q : ℕ) → digit a (suc q) ≡ digit (a / 2) q
 digit-suc a q = ap (λ (x : ℕ). x % 2) (ap (λ (k : ℕ). a / 2 ^ k) (sym (one-add q)) ∙ sym (shr-shr a 1 q))
@@ -70,3 +83,25 @@ below-power zero a f = omega (arith, none-set a (λ q. clear (digit a q) (omega 
     clear (suc d) l g = absurd (omega (arith, g (omega arith)))
 below-power (suc n) a f =
     omega (arith, pow-suc 2 n, below-power n (a / 2) (λ q d. omega (arith, f (suc q) (digit-suc a q ∙ d))))
+
+-- of the k lowest digits, the lowest that is set stands above the zeros at the end, and each of these is 0
+pub trailing-set : (k a : ℕ) → trailingZeros k a < k → digit a (trailingZeros k a) ≡ 1
+unfolding trailingZeros
+trailing-set zero a l = absurd (omega arith)
+trailing-set (suc k) a l = at (trailing-set k (a / 2)) (a % 2) refl l
+  where
+    at : (trailingZeros k (a / 2) < k → digit (a / 2) (trailingZeros k (a / 2)) ≡ 1) → (d : ℕ) → a % 2 ≡ d
+        → under d (trailingZeros k (a / 2)) < suc k → digit a (under d (trailingZeros k (a / 2))) ≡ 1
+    at rec zero e h = digit-suc a (trailingZeros k (a / 2)) ∙ rec (omega arith)
+    at rec (suc d) e h = omega arith
+
+pub trailing-zero : (k a p : ℕ) → p < trailingZeros k a → digit a p ≡ 0
+unfolding trailingZeros
+trailing-zero zero a p l = absurd (omega arith)
+trailing-zero (suc k) a p l = at (trailing-zero k (a / 2)) (a % 2) refl p l
+  where
+    at : ((q : ℕ) → q < trailingZeros k (a / 2) → digit (a / 2) q ≡ 0) → (d : ℕ) → a % 2 ≡ d → (q : ℕ)
+        → q < under d (trailingZeros k (a / 2)) → digit a q ≡ 0
+    at rec zero e zero h = omega arith
+    at rec zero e (suc q) h = digit-suc a q ∙ rec q (omega arith)
+    at rec (suc d) e q h = absurd (omega arith)

@@ -3,17 +3,23 @@ use Prim.Native.Nat.{ℕ, zero, suc, _+_, _-_, _*_, _/_, _%_, _^_, _≤_, _<_, m
 use mathlib.Core.Path.{_≡_, refl, sym, ap, subst, _∙_}
 use mathlib.Core.Bool.{Bool, true, false}
 use mathlib.Core.Logic.{_⊎_, inl, inr, _↔_}
+use mathlib.Core.Option.{Option, none, some}
 use native.Mathlib.Nat.{zero-mul, zero-mod, one-mul, mod-eq-of-lt, lt-of-lt-of-le}
 use native.Mathlib.Decide.{ℕ-discrete, decLe}
 use native.Mathlib.Omega.{arith}
 use borrow.Author.Tests.{le-leb, lt-ltb}
-use lib.Bits.{bitAnd, bitOr, and-comm, and-mask, or-zero-r}
+use lib.Bits.{bitAnd, bitOr, bitXor, differ, and-comm, and-mask, or-zero-r}
+use lib.Count.{trailingZeros, trailing-le}
 use lib.Dec.{T, eqb, leb, ltb, eqb→eq, eqb-refl, ltb→lt, lt→ltb, leb·suc-suc}
 use lib.Pow.{pow-lt, pow-mono, suc-ones, ones-split, ones-lt, high}
 use mir.Val.{boolByte}
 use Rattle.lists.specs.Tests.{choose}
-use Rattle.masks.specs.Sets.{digit, Member, member, subset, union, single, full, within}
-use Rattle.masks.proofs.Digits.{digit-and, digit-or, digit-zero, same-digits, digit-power-self, digit-power-other, digit-above, below-power}
+use Rattle.lists.specs.Lists.{firstFrom}
+use Rattle.lists.proofs.Tests.{holds, fails, decide, and-left, and-right, and-both, neg-fails, fails-neg}
+use Rattle.lists.proofs.Lists.{first-from-some, first-from-least}
+use Rattle.masks.specs.Sets.{digit, Member, member, subset, union, single, full, within, absent, lowestAbsent}
+use Rattle.masks.proofs.Digits.{digit-and, digit-or, digit-xor, digit-zero, same-digits, digit-power-self, digit-power-other, digit-above}
+use Rattle.masks.proofs.Digits.{below-power, trailing-set, trailing-zero}
 
 equal-test : (a b : ℕ) → a ≡ b → T (eqb a b)
 equal-test a b e = subst (λ (x : ℕ). T (eqb a x)) e (eqb-refl a)
@@ -170,3 +176,85 @@ within-test n set top h e = go (decLe n 64)
         let m : min n 64 ≡ 64 = omega arith in
         let t : top ≡ 2 ^ 64 - 1 = e ∙ ap (λ (x : ℕ). 2 ^ x - 1) m in
         le-leb set top (omega arith) ∙ sym (lt-ltb set (2 ^ n) (lt-of-lt-of-le h (pow-mono {i = 64} {j = n} (omega arith))))
+
+-- absent: the test says whether the state is in a and not in b
+pub absent-means : (a b q : ℕ) → T (absent a b q) ↔ (Member q a × (Member q b → ⊥))
+unfolding absent
+absent-means a b q = (
+  λ t. (member-means q a .0 (and-left _ _ t), λ m. neg-fails _ (and-right _ _ t) (member-means q b .1 m)),
+  λ h. and-both _ _ (member-means q a .1 (h .0)) (fails-neg _ (λ t. h .1 (member-means q b .0 t))),
+)
+
+-- a is a subset of b exactly if no state of it is absent from b
+pub none-absent : (a b : ℕ) → ((q : ℕ) → T (absent a b q) → ⊥) → T (subset a b)
+none-absent a b f = members-subset a b inside
+  where
+    inside : (q : ℕ) → Member q a → Member q b
+    inside q i = at (decide (member q b))
+      where
+        at : T (member q b) ⊎ (T (member q b) → ⊥) → Member q b
+        at (inl t) = member-means q b .0 t
+        at (inr n) = absurd (f q (absent-means a b q .1 (i, λ m. n (member-means q b .1 m))))
+
+-- the states of a that are absent from b, as the machine computes them
+missing-absent : (a b q : ℕ) → Member q (bitXor (bitAnd a b) a) ↔ T (absent a b q)
+missing-absent a b q = (
+  λ m. absent-means a b q .1 (to (digit a q) (digit b q) (digit (bitAnd a b) q) (digit-and a b q) (omega arith) (sym digits ∙ m)),
+  λ t. let h = absent-means a b q .0 t in digits ∙ from (digit a q) (digit b q) (digit (bitAnd a b) q) (digit-and a b q) (omega arith) (h .0) (h .1),
+)
+  where
+    digits : digit (bitXor (bitAnd a b) a) q ≡ differ (digit (bitAnd a b) q) (digit a q)
+    digits = digit-xor (bitAnd a b) a q
+
+    to : (x y both : ℕ) → both ≡ min x y → x < 2 → differ both x ≡ 1 → (x ≡ 1) × (y ≡ 1 → ⊥)
+    to zero y zero m l e = absurd (omega arith)
+    to (suc x) y zero m l e = (e, λ h. omega arith)
+    to zero y (suc both) m l e = absurd (omega arith)
+    to (suc zero) y (suc zero) m l e = absurd (omega arith)
+    to (suc zero) y (suc (suc both)) m l e = absurd (omega arith)
+    to (suc (suc x)) y (suc both) m l e = absurd (omega arith)
+
+    from : (x y both : ℕ) → both ≡ min x y → y < 2 → x ≡ 1 → (y ≡ 1 → ⊥) → differ both x ≡ 1
+    from x zero zero m l e f = e
+    from x zero (suc both) m l e f = absurd (omega arith)
+    from x (suc zero) both m l e f = absurd (f refl)
+    from x (suc (suc y)) both m l e f = absurd (omega arith)
+
+-- the lowest of them stands above the zeros at the end, of which there are few
+pub trailing-fits : (a : ℕ) → trailingZeros 64 a < 2 ^ 8
+trailing-fits a = omega (arith, trailing-le 64 a)
+
+pub lowest-trailing : (a b : ℕ) → a < 2 ^ 64 → subset a b ≡ false → lowestAbsent a b ≡ some (trailingZeros 64 (bitXor (bitAnd a b) a))
+unfolding lowestAbsent
+lowest-trailing a b l f =
+    first-from-least (absent a b) 64 0 lowest (omega arith) (omega (arith, there)) (missing-absent a b lowest .0 (trailing-set 64 missing there))
+    (λ p m k t. let d = trailing-zero 64 missing p k in let e = missing-absent a b p .1 t in omega arith)
+  where
+    missing : ℕ
+    missing = bitXor (bitAnd a b) a
+
+    lowest : ℕ
+    lowest = trailingZeros 64 missing
+
+    there : lowest < 64
+    there = at (decLe 64 lowest)
+      where
+        at : Dec (64 ≤ lowest) → lowest < 64
+        at (no n) = omega arith
+        at (yes h) =
+            absurd (fails f (none-absent a b (λ q t.
+            let e = missing-absent a b q .1 t in
+            let below = digit-above 64 a l q (absent-means a b q .0 t .0) in
+            let d = trailing-zero 64 missing q (omega (arith, h)) in
+            omega arith)))
+
+-- there is none where a is a subset of b
+pub lowest-none : (a b : ℕ) → subset a b ≡ true → lowestAbsent a b ≡ none
+unfolding lowestAbsent
+lowest-none a b e = at (firstFrom (absent a b) 64 0) refl
+  where
+    at : (found : Option ℕ) → firstFrom (absent a b) 64 0 ≡ found → found ≡ none
+    at none r = refl
+    at (some q) r =
+        let lacking = absent-means a b q .0 (first-from-some (absent a b) 64 0 r .2) in
+        absurd (lacking .1 (subset-members a b (holds e) q (lacking .0)))

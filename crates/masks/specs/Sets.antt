@@ -1,11 +1,14 @@
 -- Sets of states as numbers: 01's "A case is a set of states, written as a mask: bit q stands for state q".
--- Tests that compute; what each means of the states is a law of proofs/Laws.antt. Nothing here has a width: the laws hold for every n.
+-- Tests that compute; what each means of the states is a law of proofs/Laws.antt. Nothing here but `lowestAbsent` has a width: the laws hold for every n.
 -- Assumes nothing.
 use Prim.Native.Nat.{ℕ, _-_, _/_, _%_, _^_}
 use mathlib.Core.Path.{_≡_}
 use mathlib.Core.Bool.{Bool}
+use mathlib.Core.Option.{Option}
 use lib.Dec.{eqb, ltb}
 use lib.Bits.{bitAnd, bitOr}
+use Rattle.lists.specs.Tests.{_and_, neg}
+use Rattle.lists.specs.Lists.{firstFrom}
 
 -- binary digit q of a number
 abbrev pub digit : ℕ → ℕ → ℕ
@@ -38,3 +41,11 @@ full n = 2 ^ n - 1
 -- the test whether the set has no bit at n or above
 unfoldable pub within : ℕ → ℕ → Bool
 within n set = ltb set (2 ^ n)
+
+-- the test whether state q is in the first set and absent from the second
+unfoldable pub absent : ℕ → ℕ → ℕ → Bool
+absent a b q = member q a and neg (member q b)
+
+-- of the 64 states that a mask can have, the lowest that is in the first set and absent from the second
+unfoldable pub lowestAbsent : ℕ → ℕ → Option ℕ
+lowestAbsent a b = firstFrom (absent a b) 64 0

@@ -1,9 +1,11 @@
 // Sets of states as masks of 64 bits: bit q stands for state q.
 ghost use mathlib.Core.Path.{_≡_};
+ghost use mathlib.Core.Bool.{false};
+ghost use mathlib.Core.Option.{some};
 ghost use Prim.Native.Nat.{_<_, min};
 ghost use Rattle.lists.specs.Tests.{choose};
 ghost use Rattle.masks.specs.Sets.{subset as isSubset, member as isMember, within as isWithin};
-ghost use Rattle.masks.specs.Sets.{union, single, full as fullSet};
+ghost use Rattle.masks.specs.Sets.{union, single, full as fullSet, lowestAbsent};
 
 // A state's number.
 pub struct State(pub u8);
@@ -57,4 +59,13 @@ pub fn within(n: u8, set: u64) -> bool
     ensures { λ r. ⌜ r ≡ isWithin n set ⌝ }
 {
     set <= full(n)
+}
+
+// The lowest state of a that is absent from b, where there is one.
+pub fn lowest_absent(a: u64, b: u64) -> State
+    requires { ⌜ isSubset a b ≡ false ⌝ }
+    ensures { λ r. ⌜ lowestAbsent a b ≡ some (r .0) ⌝ }
+{
+    let missing = a & b ^ a;
+    State(u64::trailing_zeros(missing) as u8)
 }

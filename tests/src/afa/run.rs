@@ -1,11 +1,11 @@
 //! `afa_run`, called with every slice in guarded memory. It stands apart from the other functions so
 //! that only those who use it need an archive that has it.
 
+use super::bytes_of;
 use crate::compare::hexadecimal;
 use crate::fault;
 use crate::guarded::{Edge, ReadOnly, Untouchable, Writable, EDGES};
 use crate::tables::{Answer, Rooms, Tables};
-use std::slice;
 
 /// As `include/afa.h` declares it.
 pub mod interface {
@@ -206,11 +206,6 @@ impl Runner {
         };
         (answer, after)
     }
-}
-
-fn bytes_of(numbers: &[u64]) -> &[u8] {
-    // SAFETY: these are the same bytes, and any byte is a value.
-    unsafe { slice::from_raw_parts(numbers.as_ptr().cast(), size_of_val(numbers)) }
 }
 
 impl Default for Runner {

@@ -23,6 +23,12 @@ impl<'a, Entered: EnteredTable> Blockers<'a, Entered> {
         }
     }
 
+    /// So many are held, as the tables have them.
+    pub fn hold(&mut self, held: usize) {
+        assert!(held <= self.masks.len());
+        self.held = held;
+    }
+
     pub fn is_full(&self) -> bool {
         self.held == self.masks.len()
     }

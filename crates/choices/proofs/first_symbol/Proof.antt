@@ -1,15 +1,18 @@
-use borrow.Author.Needs.{needs}
 use Prim.Native.Nat.{_-_}
 use lib.ListN.{length}
-use Rattle.choices.proofs.Symbols.{SymbolsTried, tried-none, symbol-known, tried-all, try-inside, try-short, find-bottom, try-covered, find-open}
-use Rattle.choices.proofs.Symbols.{BlockersTried, walk-starts, walk-goes}
+use Rattle.choices.proofs.Symbols.{SymbolsTried, tried-none, symbol-known, tried-all, try-inside, try-lacking, find-bottom, try-covered, find-open}
+use Rattle.choices.proofs.Symbols.{BlockersTried, tried-starts, tried-goes}
+use borrow.Author.Needs.{needs}
 use Rattle.choices.proofs.first_symbol.Statement.{statement}
 use Rattle.choices.proofs.first_symbol.Tie as tie
 use Rattle.choices.proofs.first_symbol.Reads as reads
 use Rattle.choices.proofs.first_symbol.Lts as lts
 use Rattle.automata.proofs.backward.backward.Reads as backward-reads
 use Rattle.blockers.proofs.Level.equals.Reads as equals-reads
-use Rattle.blockers.proofs.covers.Reads as covers-reads
+use Rattle.blockers.proofs.reasons.Reason.is_there.Reads as is-there-reads
+use Rattle.blockers.proofs.reasons.leading_misses.Reads as leading-misses-reads
+use Rattle.blockers.proofs.reasons.lowest_initial.Reads as lowest-initial-reads
+use Rattle.blockers.proofs.reasons.reason_at.Reads as reason-at-reads
 use Rattle.masks.proofs.subset.Reads as subset-reads
 
 abbrev Inv-loop : tie.InvT-loop
@@ -45,11 +48,11 @@ symbols-again c = search (try-inside, needs)
 equals-requires : tie.Need-equals-requires Inv-loop μ-loop Inv-symbols μ-symbols
 equals-requires c κs = search needs
 
-subset-requires-2 : tie.Need-subset-requires-2 Inv-loop μ-loop Inv-symbols μ-symbols
-subset-requires-2 c κs = search needs
+lowest-initial-requires : tie.Need-lowest-initial-requires Inv-loop μ-loop Inv-symbols μ-symbols
+lowest-initial-requires c κs = search needs
 
-returns : tie.Need-returns Inv-loop μ-loop Inv-symbols μ-symbols
-returns c = search (find-bottom, needs)
+is-there-requires : tie.Need-is-there-requires Inv-loop μ-loop Inv-symbols μ-symbols
+is-there-requires c κs = search needs
 
 add-s-2 : tie.Need-add-s-2 Inv-loop μ-loop Inv-symbols μ-symbols
 add-s-2 c = search needs
@@ -58,25 +61,22 @@ symbols-less-2 : tie.Need-symbols-less-2 Inv-loop μ-loop Inv-symbols μ-symbols
 symbols-less-2 c = search needs
 
 symbols-again-2 : tie.Need-symbols-again-2 Inv-loop μ-loop Inv-symbols μ-symbols
-symbols-again-2 c = search (try-short, needs)
+symbols-again-2 c = search (try-lacking, needs)
+
+returns : tie.Need-returns Inv-loop μ-loop Inv-symbols μ-symbols
+returns c = search (find-bottom, needs)
+
+leading-misses-requires : tie.Need-leading-misses-requires Inv-loop μ-loop Inv-symbols μ-symbols
+leading-misses-requires c κs = search needs
 
 loop-holds : tie.Need-loop-holds Inv-loop μ-loop Inv-symbols μ-symbols
-loop-holds c = search (walk-starts, needs)
+loop-holds c = search (tried-starts, needs)
 
-mul-covers : tie.Need-mul-covers Inv-loop μ-loop Inv-symbols μ-symbols
-mul-covers c = search needs
+reason-at-requires : tie.Need-reason-at-requires Inv-loop μ-loop Inv-symbols μ-symbols
+reason-at-requires c κs = search needs
 
-shared-slice-read-covers : tie.Need-shared-slice-read-covers Inv-loop μ-loop Inv-symbols μ-symbols
-shared-slice-read-covers c = search needs
-
-mul-t22 : tie.Need-mul-t22 Inv-loop μ-loop Inv-symbols μ-symbols
-mul-t22 c = search needs
-
-shared-slice-read-t24 : tie.Need-shared-slice-read-t24 Inv-loop μ-loop Inv-symbols μ-symbols
-shared-slice-read-t24 c = search needs
-
-covers-requires : tie.Need-covers-requires Inv-loop μ-loop Inv-symbols μ-symbols
-covers-requires c κs = search needs
+is-there-requires-2 : tie.Need-is-there-requires-2 Inv-loop μ-loop Inv-symbols μ-symbols
+is-there-requires-2 c κs = search needs
 
 add-s-3 : tie.Need-add-s-3 Inv-loop μ-loop Inv-symbols μ-symbols
 add-s-3 c = search needs
@@ -94,7 +94,9 @@ loop-less : tie.Need-loop-less Inv-loop μ-loop Inv-symbols μ-symbols
 loop-less c = search needs
 
 loop-again : tie.Need-loop-again Inv-loop μ-loop Inv-symbols μ-symbols
-loop-again c = search (walk-goes, needs)
+loop-again c =
+    tried-goes (c .before .before .before .before .loop .inv) _ _ (c .before .before .before .loop-test .taken) (c .before .before .reason-at .ensures)
+    (c .before .is-there2 .ensures) (c .if4 .left)
 
 returns-2 : tie.Need-returns-2 Inv-loop μ-loop Inv-symbols μ-symbols
 returns-2 c = search (find-open, needs)
@@ -117,17 +119,16 @@ first-symbol-spec =
     symbols-less
     symbols-again
     equals-requires
-    subset-requires-2
-    returns
+    lowest-initial-requires
+    is-there-requires
     add-s-2
     symbols-less-2
     symbols-again-2
+    returns
+    leading-misses-requires
     loop-holds
-    mul-covers
-    shared-slice-read-covers
-    mul-t22
-    shared-slice-read-t24
-    covers-requires
+    reason-at-requires
+    is-there-requires-2
     add-s-3
     symbols-less-3
     symbols-again-3

@@ -4,11 +4,15 @@ use Rattle.checker.proofs.steps.pend_final.Statement.{statement}
 use Rattle.checker.proofs.steps.pend_final.Tie as tie
 use Rattle.checker.proofs.steps.pend_final.Reads as reads
 use Rattle.checker.proofs.steps.pend_final.Lts as lts
-use Rattle.choices.proofs.blocked.Reads as blocked-reads
+use Rattle.blockers.proofs.reasons.Reason.is_there.Reads as is-there-reads
+use Rattle.blockers.proofs.reasons.why.Reads as why-reads
 use Rattle.pending.proofs.push.Reads as push-reads
 
-blocked-requires : tie.Need-blocked-requires
-blocked-requires c κs = search needs
+why-requires : tie.Need-why-requires
+why-requires c κs = search needs
+
+is-there-requires : tie.Need-is-there-requires
+is-there-requires c κs = search needs
 
 returns : tie.Need-returns
 returns c = search (final-blocked, needs)
@@ -27,4 +31,4 @@ returns-2 c = search (final-free, needs)
 
 pub pend-final-spec : {M : Type 1} → statement M
 pend-final-spec =
-    tie.close (tie.spec blocked-requires returns push-requires same-length same-length-2 returns-2)
+    tie.close (tie.spec why-requires is-there-requires returns push-requires same-length same-length-2 returns-2)

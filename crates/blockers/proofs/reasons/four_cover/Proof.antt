@@ -1,11 +1,11 @@
 use Rattle.blockers.proofs.Walks.{four-cover}
 use borrow.Author.Needs.{needs}
-use Rattle.blockers.proofs.four_cover.Statement.{statement}
-use Rattle.blockers.proofs.four_cover.Tie as tie
-use Rattle.blockers.proofs.four_cover.Reads as reads
-use Rattle.blockers.proofs.four_cover.Lts as lts
-use Rattle.blockers.proofs.covers_at.Reads as covers-at-reads
-use Rattle.blockers.proofs.either.Reads as either-reads
+use Rattle.blockers.proofs.reasons.four_cover.Statement.{statement}
+use Rattle.blockers.proofs.reasons.four_cover.Tie as tie
+use Rattle.blockers.proofs.reasons.four_cover.Reads as reads
+use Rattle.blockers.proofs.reasons.four_cover.Lts as lts
+use Rattle.blockers.proofs.one_of_four.Reads as one-of-four-reads
+use Rattle.blockers.proofs.reasons.covers_at.Reads as covers-at-reads
 
 covers-at-requires : tie.Need-covers-at-requires
 covers-at-requires c κs = search needs
@@ -28,14 +28,8 @@ add-covers-at-3 c = search needs
 covers-at-requires-4 : tie.Need-covers-at-requires-4
 covers-at-requires-4 c κs = search needs
 
-either-requires : tie.Need-either-requires
-either-requires c κs = search needs
-
-either-requires-2 : tie.Need-either-requires-2
-either-requires-2 c κs = search needs
-
-either-requires-3 : tie.Need-either-requires-3
-either-requires-3 c κs = search needs
+one-of-four-requires : tie.Need-one-of-four-requires
+one-of-four-requires c κs = search needs
 
 returns : tie.Need-returns
 returns c = search (four-cover, needs)
@@ -51,7 +45,5 @@ four-cover-spec =
     covers-at-requires-3
     add-covers-at-3
     covers-at-requires-4
-    either-requires
-    either-requires-2
-    either-requires-3
+    one-of-four-requires
     returns)

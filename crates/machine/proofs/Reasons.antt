@@ -1,0 +1,185 @@
+-- What the reason means why a case is blocked: there is one exactly if the case is blocked, the blocker is the first that covers the case, and the state is
+-- the lowest initial one absent. Assumes nothing.
+use Prim.Native.Nat.{ℕ, zero, suc, _+_, _≤_, _<_}
+use mathlib.Core.Path.{_≡_, refl, sym, ap, _∙_}
+use mathlib.Core.Bool.{Bool, true, false}
+use mathlib.Core.List.{List, [], _∷_, _++_}
+use mathlib.Core.Logic.{_⊎_, inl, inr, _↔_}
+use mathlib.Core.Option.{Option, none, some}
+use native.Mathlib.Nat.{add-zero}
+use native.Mathlib.Omega.{arith}
+use lib.Dec.{T}
+use lib.ListN.{length}
+use Rattle.lists.specs.Tests.{_or_, neg, choose}
+use Rattle.lists.specs.Lists.{any, firstFrom}
+use Rattle.lists.proofs.Tests.{holds, fails, is-true, is-false, decide, or-neither, choose-true, choose-false}
+use Rattle.lists.proofs.Lists.{in-none, each-more, first-from-none, first-from-some, first-from-before}
+use Rattle.masks.specs.Sets.{Member, member, subset, within, absent, lowestAbsent}
+use Rattle.masks.proofs.Laws.{member-means, subset-members, within-members, absent-means, none-absent}
+use Rattle.machine.specs.Machine.{Blocker, covers, blocked}
+use Rattle.machine.specs.Why.{Reason, byBlocker, byStart, nothing, firstCovering, absentReason, why, isReason, FirstCovering, LowestAbsent}
+use Rattle.machine.specs.Promises.{WhyPromises}
+
+-- the first blocker of a table covers the case, or the search goes on behind it
+pub first-covers : (i X place : ℕ) (blocker : Blocker) (table : List Blocker) → covers i X blocker ≡ true
+    → firstCovering i X place (blocker ∷ table) ≡ byBlocker place (blocker .level)
+unfolding firstCovering
+first-covers i X place blocker table e = choose-true _ _ e
+
+pub first-misses : (i X place : ℕ) (blocker : Blocker) (table : List Blocker) → covers i X blocker ≡ false
+    → firstCovering i X place (blocker ∷ table) ≡ firstCovering i X (suc place) table
+unfolding firstCovering
+first-misses i X place blocker table e = choose-false _ _ e
+
+-- where none of the first blockers covers the case, it goes on behind them
+pub first-behind : (i X place : ℕ) (first rest : List Blocker) → any (covers i X) first ≡ false
+    → firstCovering i X place (first ++ rest) ≡ firstCovering i X (place + length first) rest
+unfolding any
+first-behind i X place [] rest f = ap (λ (k : ℕ). firstCovering i X k rest) (sym (add-zero place))
+first-behind i X place (blocker ∷ first) rest f =
+    let misses = or-neither (covers i X blocker) (any (covers i X) first) f in
+    first-misses i X place blocker (first ++ rest) (misses .0) ∙ first-behind i X (suc place) first rest (misses .1)
+    ∙ ap (λ (k : ℕ). firstCovering i X k rest) (behind (length first))
+  where
+    behind : (count : ℕ) → suc place + count ≡ place + suc count
+    behind count = omega arith
+
+-- it finds one exactly if there is one
+pub covering-any : (i X place : ℕ) (table : List Blocker) → isReason (firstCovering i X place table) ≡ any (covers i X) table
+unfolding isReason firstCovering any _or_ choose
+covering-any i X place [] = refl
+covering-any i X place (blocker ∷ table) = at (covering-any i X (suc place) table) (covers i X blocker)
+  where
+    at : isReason (firstCovering i X (suc place) table) ≡ any (covers i X) table → (b : Bool)
+        → isReason (choose b (byBlocker place (blocker .level)) (firstCovering i X (suc place) table)) ≡ b or any (covers i X) table
+    at rec true = refl
+    at rec false = rec
+
+-- an initial state is absent exactly if the case does not contain I
+absent-any : (initial X : ℕ) → T (within 64 initial) → isReason (absentReason (lowestAbsent initial X)) ≡ neg (subset initial X)
+unfolding isReason absentReason lowestAbsent neg
+absent-any initial X narrow = at (firstFrom (absent initial X) 64 0) refl
+  where
+    at : (found : Option ℕ) → firstFrom (absent initial X) 64 0 ≡ found → isReason (absentReason found) ≡ neg (subset initial X)
+    at none e = sym (ap neg {x = subset initial X} (is-true (subset initial X) (none-absent initial X nowhere)))
+      where
+        nowhere : (q : ℕ) → T (absent initial X q) → ⊥
+        nowhere q t =
+            let below = within-members 64 initial narrow q (absent-means initial X q .0 t .0) in
+            first-from-none (absent initial X) 64 0 e q (omega arith) (omega arith) t
+    at (some q) e =
+        let lacking = absent-means initial X q .0 (first-from-some (absent initial X) 64 0 e .2) in
+        sym (ap neg {x = subset initial X} (is-false (subset initial X) (λ t. lacking .1 (subset-members initial X t q (lacking .0)))))
+
+-- the one law: a case is blocked exactly if there is a reason
+pub blocked-by-reason : (initial : ℕ) (table : List Blocker) (i X : ℕ) → T (within 64 initial)
+    → isReason (why initial table i X) ≡ blocked initial table i X
+unfolding why blocked
+blocked-by-reason initial table zero X narrow = absent-any initial X narrow
+blocked-by-reason initial table (suc i) X narrow = covering-any (suc i) X 0 table
+
+-- the blocker that is found, with its place counted from `from`
+covering-first : (i X from : ℕ) (table : List Blocker) (place level : ℕ) → firstCovering i X from table ≡ byBlocker place level
+    → (from ≤ place) × ((at : ℕ) → place ≡ from + at → FirstCovering table i X at level)
+unfolding firstCovering
+covering-first i X from [] place level e = let z : _≡_ {A = ℕ} 0 1 = cc in absurd (omega arith)
+covering-first i X from (blocker ∷ table) place level e = step (covering-first i X (suc from) table place level) (covers i X blocker) refl
+  where
+    step : (firstCovering i X (suc from) table ≡ byBlocker place level → (suc from ≤ place) × ((at : ℕ) → place ≡ suc from + at → FirstCovering table i X at level))
+        → (b : Bool) → covers i X blocker ≡ b → (from ≤ place) × ((at : ℕ) → place ≡ from + at → FirstCovering (blocker ∷ table) i X at level)
+    step rec true q =
+        let same : byBlocker from (blocker .level) ≡ byBlocker place level = sym (choose-true _ _ q) ∙ e in
+        let here : from ≡ place = cc in
+        let its : blocker .level ≡ level = cc in (
+          omega arith,
+          λ at counted. record {
+            before = [];
+            blocker = blocker;
+            after = table;
+            stands = refl;
+            counted = omega arith;
+            its-level = sym its;
+            covering = holds q;
+            first = λ earlier m. absurd (in-none m);
+          },
+        )
+    step rec false q =
+        let r = rec (sym (choose-false _ _ q) ∙ e) in
+        (omega (arith, r .0), λ at counted. behind (r .0) (r .1) at counted)
+      where
+        behind : suc from ≤ place → ((at : ℕ) → place ≡ suc from + at → FirstCovering table i X at level) → (at : ℕ) → place ≡ from + at
+            → FirstCovering (blocker ∷ table) i X at level
+        behind l f zero counted = absurd (omega arith)
+        behind l f (suc at) counted =
+            let r = f at (omega arith) in
+            record {
+              before = blocker ∷ r .before;
+              blocker = r .blocker;
+              after = r .after;
+              stands = ap (λ (rest : List Blocker). blocker ∷ rest) (r .stands);
+              counted = ap suc (r .counted);
+              its-level = r .its-level;
+              covering = r .covering;
+              first = each-more (fails q) (r .first);
+            }
+
+-- a walk over blockers finds no state, and the search for a state no blocker
+covering-no-state : (i X from : ℕ) (table : List Blocker) (q : ℕ) → firstCovering i X from table ≡ byStart q → ⊥
+unfolding firstCovering
+covering-no-state i X from [] q e = let z : _≡_ {A = ℕ} 0 1 = cc in omega arith
+covering-no-state i X from (blocker ∷ table) q e = step (covering-no-state i X (suc from) table q) (covers i X blocker) refl
+  where
+    step : (firstCovering i X (suc from) table ≡ byStart q → ⊥) → (b : Bool) → covers i X blocker ≡ b → ⊥
+    step rec true r =
+        let same : byBlocker from (blocker .level) ≡ byStart q = sym (choose-true _ _ r) ∙ e in
+        let z : _≡_ {A = ℕ} 0 1 = cc in
+        omega arith
+    step rec false r = rec (sym (choose-false _ _ r) ∙ e)
+
+absent-no-blocker : (found : Option ℕ) (place level : ℕ) → absentReason found ≡ byBlocker place level → ⊥
+unfolding absentReason
+absent-no-blocker none place level e = let z : _≡_ {A = ℕ} 0 1 = cc in omega arith
+absent-no-blocker (some q) place level e = let z : _≡_ {A = ℕ} 0 1 = cc in omega arith
+
+-- the state that is found
+lowest-found : (initial X q : ℕ) (found : Option ℕ) → firstFrom (absent initial X) 64 0 ≡ found → absentReason found ≡ byStart q → LowestAbsent initial X q
+unfolding absentReason
+lowest-found initial X q none e r = let z : _≡_ {A = ℕ} 0 1 = cc in absurd (omega arith)
+lowest-found initial X q (some s) e r =
+    let same : s ≡ q = cc in
+    let found : firstFrom (absent initial X) 64 0 ≡ some q = e ∙ ap (λ (x : ℕ). some x) same in
+    let lacking = absent-means initial X q .0 (first-from-some (absent initial X) 64 0 found .2) in
+    record { initially = lacking .0; lacking = lacking .1; lowest = λ p l m. inside found p l m (decide (member p X)) }
+  where
+    inside : firstFrom (absent initial X) 64 0 ≡ some q → (p : ℕ) → p < q → Member p initial → T (member p X) ⊎ (T (member p X) → ⊥) → Member p X
+    inside found p l m (inl t) = member-means p X .0 t
+    inside found p l m (inr f) =
+        absurd (first-from-before (absent initial X) 64 0 found p (omega arith) l (absent-means initial X p .1 (m, λ k. f (member-means p X .1 k))))
+
+by-blocker : (initial : ℕ) (table : List Blocker) (i X place level : ℕ) → why initial table i X ≡ byBlocker place level
+    → (1 ≤ i) × FirstCovering table i X place level
+unfolding why
+by-blocker initial table zero X place level e = absurd (absent-no-blocker (lowestAbsent initial X) place level e)
+by-blocker initial table (suc i) X place level e = (omega arith, covering-first (suc i) X 0 table place level e .1 place (omega arith))
+
+by-start : (initial : ℕ) (table : List Blocker) (i X q : ℕ) → why initial table i X ≡ byStart q → (i ≡ 0) × LowestAbsent initial X q
+unfolding why lowestAbsent
+by-start initial table zero X q e = (refl, lowest-found initial X q (firstFrom (absent initial X) 64 0) refl e)
+by-start initial table (suc i) X q e = absurd (covering-no-state (suc i) X 0 table q e)
+
+-- there is no reason exactly if the answer is nothing
+reason-nothing : (reason : Reason) → (reason ≡ nothing) ↔ (T (isReason reason) → ⊥)
+unfolding isReason
+reason-nothing (byBlocker place level) = (λ e. let z : _≡_ {A = ℕ} 0 1 = cc in absurd (omega arith), λ f. absurd (f tt))
+reason-nothing (byStart q) = (λ e. let z : _≡_ {A = ℕ} 0 1 = cc in absurd (omega arith), λ f. absurd (f tt))
+reason-nothing nothing = (λ e t. t, λ f. refl)
+
+pub why-tells : (initial : ℕ) (table : List Blocker) (i X : ℕ) → T (within 64 initial) → WhyPromises initial table i X (why initial table i X)
+why-tells initial table i X narrow =
+    let same = blocked-by-reason initial table i X narrow in
+    let none = reason-nothing (why initial table i X) in
+    record {
+      by-blocker = by-blocker initial table i X;
+      by-start = by-start initial table i X;
+      none-exactly = (λ e. rw same at (none .0 e), λ f. none .1 (rw same f));
+    }
