@@ -88,30 +88,14 @@ pub fn observed_run<Entered: EnteredTable>(
     machine.finish(number)
 }
 
-/// Whether each case is blocked at the level beside it, to a machine that holds so many blockers as the
-/// tables have them. The image must be one that no check refuses. The machine is written out here too:
-/// a constructor that both shared would change the code that the benchmark measures.
-pub fn blocked(image: &[u8], rooms: Rooms, held: usize, asked: &[(u64, u32)]) -> Vec<bool> {
-    let head = check(image).expect("a valid image");
-    let mut machine = Machine {
-        automaton: Automaton::new(image, &head),
-        blockers: Blockers::new(rooms.masks, rooms.levels, rooms.entered),
-        cases: rooms.cases,
-        symbols: rooms.symbols,
-        hints: &[],
-        level: 0,
-        open: false,
-        pending: 0,
-        steps: 0,
-        blocks: 0,
-        hints_accepted: 0,
-        word_length: 0,
-        observe: |_| {},
-    };
-    machine.blockers.hold(held);
+/// Whether each case is blocked at the level beside it, by I and the blockers that so many places of the
+/// tables hold.
+pub fn blocked(initial: u64, rooms: Rooms, held: usize, asked: &[(u64, u32)]) -> Vec<bool> {
+    let mut blockers = Blockers::new(rooms.masks, rooms.levels, rooms.entered);
+    blockers.hold(held);
     let asked = asked.iter();
     asked
-        .map(|&(case, level)| machine.blocked(case, level))
+        .map(|&(case, level)| blockers.block(initial, case, level))
         .collect()
 }
 
@@ -298,14 +282,8 @@ impl<Entered: EnteredTable, Observe: FnMut(Event)> Machine<'_, Entered, Observe>
             .all(|symbol| self.blocked(self.automaton.backward_set(symbol, mask), level))
     }
 
-    /// "A case is blocked at level i >= 1 if it is a subset of a blocker of level i or more; at level
-    /// 0 if it does not contain I."
     fn blocked(&self, case: u64, level: u32) -> bool {
-        if level == 0 {
-            !contains(case, self.automaton.initial)
-        } else {
-            self.blockers.cover(case, level)
-        }
+        self.blockers.block(self.automaton.initial, case, level)
     }
 
     fn push(&mut self, case: u64, symbol: u8) {

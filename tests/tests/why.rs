@@ -81,6 +81,27 @@ fn the_example_of_the_format() {
     }
 }
 
+/// Asks of a table in which the blocker at the place is the first that covers, if it is there, and so
+/// many of a hundred behind it cover too.
+fn ask_first_at(
+    comparison: &mut why::Comparison,
+    random: &mut Random,
+    size: usize,
+    first: usize,
+    others: usize,
+) {
+    let (level, case) = (level(random), case(random));
+    let (masks, levels) = first_at(random, size, first, others, case, level);
+    let question = Question {
+        initial: random.number(),
+        masks: &masks,
+        levels: &levels,
+        level: u64::from(level),
+        case,
+    };
+    comparison.expect_blocker(&question, (first < size).then_some(first));
+}
+
 /// Sizes up to 40 and about multiples of 8, the first covering blocker at every place or at none, and
 /// others behind it or not.
 #[test]
@@ -91,17 +112,8 @@ fn the_first_covering_blocker_at_every_place() {
     for size in (0..=40).chain(about_eights) {
         for first in 0..=size {
             for round in 0..21 {
-                let (level, case) = (level(&mut random), case(&mut random));
                 let others = [0, 30, 100][round % 3];
-                let (masks, levels) = first_at(&mut random, size, first, others, case, level);
-                let question = Question {
-                    initial: random.number(),
-                    masks: &masks,
-                    levels: &levels,
-                    level: u64::from(level),
-                    case,
-                };
-                comparison.expect_blocker(&question, (first < size).then_some(first));
+                ask_first_at(&mut comparison, &mut random, size, first, others);
             }
         }
     }
@@ -269,6 +281,27 @@ fn lengths_that_are_too_short_when_cut() {
     }
 }
 
+/// Asks at level 0, which does not ask the table: so many blockers that cover the case.
+fn ask_level_0(
+    comparison: &mut why::Comparison,
+    random: &mut Random,
+    size: usize,
+    (initial, case): (u64, u64),
+    absent: Option<u64>,
+) {
+    let question = Question {
+        initial,
+        masks: &vec![random.pick(&[case, u64::MAX]); size],
+        levels: &vec![random.pick(&BLOCKER_LEVELS); size],
+        level: 0,
+        case,
+    };
+    match absent {
+        Some(state) => comparison.expect(&question, 2, [state, 0]),
+        None => comparison.expect(&question, 0, [0, 0]),
+    }
+}
+
 /// Two initial states absent, each pair of them, and the lowest with any others above it. The case may
 /// have more than I, and the tables, which are not asked, may cover it.
 #[test]
@@ -285,14 +318,8 @@ fn the_lowest_initial_state_absent() {
             for initial in [absent, absent | random.number(), u64::MAX] {
                 let case = (initial | random.number()) & !absent;
                 for size in [0, 1, random.within(2..=20)] {
-                    let question = Question {
-                        initial,
-                        masks: &vec![random.pick(&[case, u64::MAX]); size],
-                        levels: &vec![random.pick(&BLOCKER_LEVELS); size],
-                        level: 0,
-                        case,
-                    };
-                    comparison.expect(&question, 2, [state, 0]);
+                    let asked = (initial, case);
+                    ask_level_0(&mut comparison, &mut random, size, asked, Some(state));
                 }
             }
         }
@@ -309,14 +336,7 @@ fn no_initial_state_absent() {
         let case = case(&mut random);
         let size = random.within(0..=12);
         for initial in [0, case, case & random.number(), case & 1 << 63] {
-            let question = Question {
-                initial,
-                masks: &vec![random.pick(&[case, u64::MAX]); size],
-                levels: &vec![random.pick(&BLOCKER_LEVELS); size],
-                level: 0,
-                case,
-            };
-            comparison.expect(&question, 0, [0, 0]);
+            ask_level_0(&mut comparison, &mut random, size, (initial, case), None);
         }
     }
     println!("no initial state absent: {}", comparison.seen);
@@ -374,18 +394,9 @@ fn large_tables() {
     sizes.extend((0..10).map(|_| random.within(500..=65_536)));
     for size in sizes {
         ask_at_random(&mut comparison, &mut random, size, 8);
-        let (case, level) = (case(&mut random), level(&mut random));
         for first in [size, size - 1, size - 2, size - 9, size / 2, 0] {
             let others = random.pick(&[0, 50]);
-            let (masks, levels) = first_at(&mut random, size, first, others, case, level);
-            let question = Question {
-                initial: random.number(),
-                masks: &masks,
-                levels: &levels,
-                level: u64::from(level),
-                case,
-            };
-            comparison.expect_blocker(&question, (first < size).then_some(first));
+            ask_first_at(&mut comparison, &mut random, size, first, others);
         }
     }
     println!("large tables: {}", comparison.seen);
@@ -414,7 +425,7 @@ fn ask_of_a_run(
         .flat_map(|level| asked.iter().map(move |&case| (case, level)))
         .collect();
     let mut machine_tables = tables.clone();
-    let blocked = machine::blocked(&model.image(), machine_tables.lend(), held, &asked);
+    let blocked = machine::blocked(model.initial, machine_tables.lend(), held, &asked);
     for (&(case, level), blocked) in asked.iter().zip(blocked) {
         let places = random.pick(&[held, held, tables.masks.len()]);
         let question = Question {

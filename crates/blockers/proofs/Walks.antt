@@ -44,7 +44,13 @@ four-joined false true c d = refl
 four-joined false false true d = refl
 four-joined false false false d = refl
 
--- whether one of four blockers covers a case, by the test of each
+-- whether a test holds of one of four, by each
+any-of-four : {A : Type 0} (test : A → Bool) (w x y z : A) (a b c d r : Bool) → a ≡ test w → b ≡ test x → c ≡ test y → d ≡ test z → r ≡ a or b or c or d
+    → r ≡ any test (w ∷ x ∷ y ∷ z ∷ [])
+unfolding any
+any-of-four test w x y z a b c d r ea eb ec ed e = e ∙ sym (ap (λ (last : Bool). a or b or c or last) (or-none d)) ∙ rw (ea, eb, ec, ed)
+
+-- of four blockers
 pub four-cover : (masks levels : List ℕ) (at level case : ℕ) (a b c d r : Bool)
     → a ≡ covers level case (blockerAt (unstampedRoom masks levels) at)
     → b ≡ covers level case (blockerAt (unstampedRoom masks levels) (at + 1))
@@ -52,11 +58,24 @@ pub four-cover : (masks levels : List ℕ) (at level case : ℕ) (a b c d r : Bo
     → d ≡ covers level case (blockerAt (unstampedRoom masks levels) (at + 3))
     → r ≡ a or b or c or d
     → r ≡ any (covers level case) (blockersFrom (unstampedRoom masks levels) 4 at)
-unfolding any blockersFrom
+unfolding blockersFrom
 four-cover masks levels at level case a b c d r ea eb ec ed e =
     let two : at + 2 ≡ suc (suc at) = omega arith in
     let three : at + 3 ≡ suc (suc (suc at)) = omega arith in
-    e ∙ sym (ap (λ (last : Bool). a or b or c or last) (or-none d)) ∙ rw (ea, eb, ec, ed, add-one, two, three)
+    any-of-four (covers level case) _ _ _ _ a b c d r ea eb ec ed e ∙ rw (add-one, two, three)
+
+-- of four elements of a list
+pub four-tested : (test : ℕ → Bool) (list : List ℕ) (i : ℕ) (a b c d r : Bool) → i + 4 ≤ length list
+    → a ≡ test (getD list i 0) → b ≡ test (getD list (i + 1) 0) → c ≡ test (getD list (i + 2) 0) → d ≡ test (getD list (i + 3) 0)
+    → r ≡ a or b or c or d → r ≡ any test (take 4 (drop i list))
+four-tested test list i a b c d r l ea eb ec ed e =
+    let two : i + 1 + 1 ≡ i + 2 = omega arith in
+    let three : i + 2 + 1 ≡ i + 3 = omega arith in
+    let first = drop-first list i (omega arith) in
+    let second = drop-first list (i + 1) (omega arith) in
+    let third = drop-first list (i + 2) (omega arith) in
+    let fourth = drop-first list (i + 3) (omega arith) in
+    any-of-four test _ _ _ _ a b c d r ea eb ec ed e ∙ sym (rw (first, second, two, third, three, fourth))
 
 -- some blockers, and those behind them
 pub blockers-split : (room : BlockerRoom) (first second at : ℕ)
@@ -252,33 +271,19 @@ module _ {test : ℕ → Bool} {list : List ℕ} {from i : ℕ} (so-far : Looked
       let none : any test (drop from list) ≡ false = sym (so-far .left) ∙ rw (drop-of-length-le list l) in
       sym (ap neg none)
 
--- whether the test holds of one of four elements, by each
-pub four-tested : (test : ℕ → Bool) (list : List ℕ) (i : ℕ) (a b c d r : Bool) → i + 4 ≤ length list
-    → a ≡ test (getD list i 0) → b ≡ test (getD list (i + 1) 0) → c ≡ test (getD list (i + 2) 0) → d ≡ test (getD list (i + 3) 0)
-    → r ≡ a or b or c or d → r ≡ any test (take 4 (drop i list))
-unfolding any
-four-tested test list i a b c d r l ea eb ec ed e =
-    let two : i + 1 + 1 ≡ i + 2 = omega arith in
-    let three : i + 2 + 1 ≡ i + 3 = omega arith in
-    let first = drop-first list i (omega arith) in
-    let second = drop-first list (i + 1) (omega arith) in
-    let third = drop-first list (i + 2) (omega arith) in
-    let fourth = drop-first list (i + 3) (omega arith) in
-    e ∙ sym (ap (λ (last : Bool). a or b or c or last) (or-none d)) ∙ rw (ea, eb, ec, ed) (sym (rw (first, second, two, third, three, fourth)))
-
 -- the search of a whole list, four elements at a time
 pub record FoursLooked (test : ℕ → Bool) (list : List ℕ) (i : ℕ) : Type 0 where
   pub few : i ≤ length list
-  pub left : any test (drop i list) ≡ any test list
+  pub looked : Looked test list 0 i
 
 pub fours-start : {test : ℕ → Bool} {list : List ℕ} → FoursLooked test list 0
-fours-start = record { few = omega arith; left = refl }
+fours-start = record { few = omega arith; looked = look-starts }
 
 module _ {test : ℕ → Bool} {list : List ℕ} {i : ℕ} (so-far : FoursLooked test list i) where
   parts : any test (take 4 (drop i list)) or any test (drop (i + 4) list) ≡ any test list
   parts =
       ap (λ (rest : List ℕ). any test (take 4 (drop i list)) or any test rest) (sym (drop-drop 4 i list))
-      ∙ sym (any-append test (take 4 (drop i list)) (drop 4 (drop i list))) ∙ ap (any test) (take-append-drop 4 (drop i list)) ∙ so-far .left
+      ∙ sym (any-append test (take 4 (drop i list)) (drop 4 (drop i list))) ∙ ap (any test) (take-append-drop 4 (drop i list)) ∙ so-far .looked .left
 
   pub fours-find : (b : Bool) → b ≡ any test (take 4 (drop i list)) → b ≡ true → false ≡ neg (any test list)
   unfolding _or_ neg
@@ -288,7 +293,7 @@ module _ {test : ℕ → Bool} {list : List ℕ} {i : ℕ} (so-far : FoursLooked
 
   pub fours-go : (b : Bool) → 4 ≤ length list - i → b ≡ any test (take 4 (drop i list)) → b ≡ false → FoursLooked test list (i + 4)
   unfolding _or_
-  fours-go b l e f = record { few = omega arith; left = sym (rw (sym e ∙ f)) ∙ parts }
+  fours-go b l e f = record { few = omega arith; looked = record { left = sym (rw (sym e ∙ f)) ∙ parts } }
 
   pub fours-rest : (r : Bool) → r ≡ neg (any test (drop i list)) → r ≡ neg (any test list)
-  fours-rest r e = e ∙ ap neg (so-far .left)
+  fours-rest r e = e ∙ ap neg (so-far .looked .left)

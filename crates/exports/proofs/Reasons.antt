@@ -1,4 +1,4 @@
--- What afa_why tells, by the answer: and that no blocker covers a case at a level above what a table of levels can hold. Assumes nothing.
+-- What afa_why tells, by the answer, and that no blocker covers a case at a level above what a table of levels can hold. Assumes nothing.
 use Prim.Native.Nat.{ℕ, zero, suc, _<_}
 use mathlib.Core.Path.{_≡_, refl, sym, ap, _∙_}
 use mathlib.Core.Bool.{false}

@@ -1,10 +1,10 @@
 -- What the reason means why a case is blocked: there is one exactly if the case is blocked, the blocker is the first that covers the case, and the state is
 -- the lowest initial one absent. Assumes nothing.
-use Prim.Native.Nat.{ℕ, zero, suc, _+_, _≤_, _<_}
-use mathlib.Core.Path.{_≡_, refl, sym, ap, _∙_}
+use Prim.Native.Nat.{ℕ, zero, suc, _+_, _≤_}
+use mathlib.Core.Path.{_≡_, refl, sym, ap, subst, _∙_}
 use mathlib.Core.Bool.{Bool, true, false}
 use mathlib.Core.List.{List, [], _∷_, _++_}
-use mathlib.Core.Logic.{_⊎_, inl, inr, _↔_}
+use mathlib.Core.Logic.{_↔_}
 use mathlib.Core.Option.{Option, none, some}
 use native.Mathlib.Nat.{add-zero}
 use native.Mathlib.Omega.{arith}
@@ -12,10 +12,10 @@ use lib.Dec.{T}
 use lib.ListN.{length}
 use Rattle.lists.specs.Tests.{_or_, neg, choose}
 use Rattle.lists.specs.Lists.{any, firstFrom}
-use Rattle.lists.proofs.Tests.{holds, fails, is-true, is-false, decide, or-neither, choose-true, choose-false}
+use Rattle.lists.proofs.Tests.{holds, fails, is-true, is-false, or-neither, choose-true, choose-false}
 use Rattle.lists.proofs.Lists.{in-none, each-more, first-from-none, first-from-some, first-from-before}
-use Rattle.masks.specs.Sets.{Member, member, subset, within, absent, lowestAbsent}
-use Rattle.masks.proofs.Laws.{member-means, subset-members, within-members, absent-means, none-absent}
+use Rattle.masks.specs.Sets.{subset, within, absent, lowestAbsent}
+use Rattle.masks.proofs.Laws.{within-members, absent-means, not-absent, none-absent, one-absent}
 use Rattle.machine.specs.Machine.{Blocker, covers, blocked}
 use Rattle.machine.specs.Why.{Reason, byBlocker, byStart, nothing, firstCovering, absentReason, why, isReason, FirstCovering, LowestAbsent}
 use Rattle.machine.specs.Promises.{WhyPromises}
@@ -67,9 +67,7 @@ absent-any initial X narrow = at (firstFrom (absent initial X) 64 0) refl
         nowhere q t =
             let below = within-members 64 initial narrow q (absent-means initial X q .0 t .0) in
             first-from-none (absent initial X) 64 0 e q (omega arith) (omega arith) t
-    at (some q) e =
-        let lacking = absent-means initial X q .0 (first-from-some (absent initial X) 64 0 e .2) in
-        sym (ap neg {x = subset initial X} (is-false (subset initial X) (λ t. lacking .1 (subset-members initial X t q (lacking .0)))))
+    at (some q) e = sym (ap neg {x = subset initial X} (is-false (subset initial X) (one-absent initial X q (first-from-some (absent initial X) 64 0 e .2))))
 
 -- the one law: a case is blocked exactly if there is a reason
 pub blocked-by-reason : (initial : ℕ) (table : List Blocker) (i X : ℕ) → T (within 64 initial)
@@ -78,50 +76,55 @@ unfolding why blocked
 blocked-by-reason initial table zero X narrow = absent-any initial X narrow
 blocked-by-reason initial table (suc i) X narrow = covering-any (suc i) X 0 table
 
--- the blocker that is found, with its place counted from `from`
+-- the blocker that is found, its place counted from `from`
+record Found (table : List Blocker) (i X from place level : ℕ) : Type 0 where
+  at : ℕ
+  counted : place ≡ from + at
+  first : FirstCovering table i X at level
+
+-- among one blocker more, which does not cover the case
+one-before : {table : List Blocker} {i X at level : ℕ} (blocker : Blocker) → covers i X blocker ≡ false → FirstCovering table i X at level
+    → FirstCovering (blocker ∷ table) i X (suc at) level
+one-before blocker misses r = record {
+  before = blocker ∷ r .before;
+  blocker = r .blocker;
+  after = r .after;
+  stands = ap (λ (rest : List Blocker). blocker ∷ rest) (r .stands);
+  counted = ap suc (r .counted);
+  its-level = r .its-level;
+  covering = r .covering;
+  first = each-more (fails misses) (r .first);
+}
+
 covering-first : (i X from : ℕ) (table : List Blocker) (place level : ℕ) → firstCovering i X from table ≡ byBlocker place level
-    → (from ≤ place) × ((at : ℕ) → place ≡ from + at → FirstCovering table i X at level)
+    → Found table i X from place level
 unfolding firstCovering
 covering-first i X from [] place level e = let z : _≡_ {A = ℕ} 0 1 = cc in absurd (omega arith)
 covering-first i X from (blocker ∷ table) place level e = step (covering-first i X (suc from) table place level) (covers i X blocker) refl
   where
-    step : (firstCovering i X (suc from) table ≡ byBlocker place level → (suc from ≤ place) × ((at : ℕ) → place ≡ suc from + at → FirstCovering table i X at level))
-        → (b : Bool) → covers i X blocker ≡ b → (from ≤ place) × ((at : ℕ) → place ≡ from + at → FirstCovering (blocker ∷ table) i X at level)
+    step : (firstCovering i X (suc from) table ≡ byBlocker place level → Found table i X (suc from) place level)
+        → (b : Bool) → covers i X blocker ≡ b → Found (blocker ∷ table) i X from place level
     step rec true q =
         let same : byBlocker from (blocker .level) ≡ byBlocker place level = sym (choose-true _ _ q) ∙ e in
         let here : from ≡ place = cc in
-        let its : blocker .level ≡ level = cc in (
-          omega arith,
-          λ at counted. record {
+        let its : blocker .level ≡ level = cc in
+        record {
+          at = 0;
+          counted = omega arith;
+          first = record {
             before = [];
             blocker = blocker;
             after = table;
             stands = refl;
-            counted = omega arith;
+            counted = refl;
             its-level = sym its;
             covering = holds q;
             first = λ earlier m. absurd (in-none m);
-          },
-        )
+          };
+        }
     step rec false q =
         let r = rec (sym (choose-false _ _ q) ∙ e) in
-        (omega (arith, r .0), λ at counted. behind (r .0) (r .1) at counted)
-      where
-        behind : suc from ≤ place → ((at : ℕ) → place ≡ suc from + at → FirstCovering table i X at level) → (at : ℕ) → place ≡ from + at
-            → FirstCovering (blocker ∷ table) i X at level
-        behind l f zero counted = absurd (omega arith)
-        behind l f (suc at) counted =
-            let r = f at (omega arith) in
-            record {
-              before = blocker ∷ r .before;
-              blocker = r .blocker;
-              after = r .after;
-              stands = ap (λ (rest : List Blocker). blocker ∷ rest) (r .stands);
-              counted = ap suc (r .counted);
-              its-level = r .its-level;
-              covering = r .covering;
-              first = each-more (fails q) (r .first);
-            }
+        record { at = suc (r .at); counted = omega (arith, r .counted); first = one-before blocker q (r .first) }
 
 -- a walk over blockers finds no state, and the search for a state no blocker
 covering-no-state : (i X from : ℕ) (table : List Blocker) (q : ℕ) → firstCovering i X from table ≡ byStart q → ⊥
@@ -149,18 +152,20 @@ lowest-found initial X q (some s) e r =
     let same : s ≡ q = cc in
     let found : firstFrom (absent initial X) 64 0 ≡ some q = e ∙ ap (λ (x : ℕ). some x) same in
     let lacking = absent-means initial X q .0 (first-from-some (absent initial X) 64 0 found .2) in
-    record { initially = lacking .0; lacking = lacking .1; lowest = λ p l m. inside found p l m (decide (member p X)) }
-  where
-    inside : firstFrom (absent initial X) 64 0 ≡ some q → (p : ℕ) → p < q → Member p initial → T (member p X) ⊎ (T (member p X) → ⊥) → Member p X
-    inside found p l m (inl t) = member-means p X .0 t
-    inside found p l m (inr f) =
-        absurd (first-from-before (absent initial X) 64 0 found p (omega arith) l (absent-means initial X p .1 (m, λ k. f (member-means p X .1 k))))
+    record {
+      initially = lacking .0;
+      lacking = lacking .1;
+      lowest = λ p l m. not-absent initial X p m (first-from-before (absent initial X) 64 0 found p (omega arith) l);
+    }
 
 by-blocker : (initial : ℕ) (table : List Blocker) (i X place level : ℕ) → why initial table i X ≡ byBlocker place level
     → (1 ≤ i) × FirstCovering table i X place level
 unfolding why
 by-blocker initial table zero X place level e = absurd (absent-no-blocker (lowestAbsent initial X) place level e)
-by-blocker initial table (suc i) X place level e = (omega arith, covering-first (suc i) X 0 table place level e .1 place (omega arith))
+by-blocker initial table (suc i) X place level e =
+    let found = covering-first (suc i) X 0 table place level e in
+    let counted : found .at ≡ place = omega (arith, found .counted) in
+    (omega arith, subst (λ (k : ℕ). FirstCovering table (suc i) X k level) counted (found .first))
 
 by-start : (initial : ℕ) (table : List Blocker) (i X q : ℕ) → why initial table i X ≡ byStart q → (i ≡ 0) × LowestAbsent initial X q
 unfolding why lowestAbsent

@@ -185,16 +185,20 @@ absent-means a b q = (
   λ h. and-both _ _ (member-means q a .1 (h .0)) (fails-neg _ (λ t. h .1 (member-means q b .0 t))),
 )
 
--- a is a subset of b exactly if no state of it is absent from b
-pub none-absent : (a b : ℕ) → ((q : ℕ) → T (absent a b q) → ⊥) → T (subset a b)
-none-absent a b f = members-subset a b inside
+-- a state of a that is not absent from b is in it
+pub not-absent : (a b q : ℕ) → Member q a → (T (absent a b q) → ⊥) → Member q b
+not-absent a b q i f = at (decide (member q b))
   where
-    inside : (q : ℕ) → Member q a → Member q b
-    inside q i = at (decide (member q b))
-      where
-        at : T (member q b) ⊎ (T (member q b) → ⊥) → Member q b
-        at (inl t) = member-means q b .0 t
-        at (inr n) = absurd (f q (absent-means a b q .1 (i, λ m. n (member-means q b .1 m))))
+    at : T (member q b) ⊎ (T (member q b) → ⊥) → Member q b
+    at (inl t) = member-means q b .0 t
+    at (inr n) = absurd (f (absent-means a b q .1 (i, λ m. n (member-means q b .1 m))))
+
+-- so a is a subset of b exactly if no state of it is absent from b
+pub none-absent : (a b : ℕ) → ((q : ℕ) → T (absent a b q) → ⊥) → T (subset a b)
+none-absent a b f = members-subset a b (λ q i. not-absent a b q i (f q))
+
+pub one-absent : (a b q : ℕ) → T (absent a b q) → T (subset a b) → ⊥
+one-absent a b q t s = let lacking = absent-means a b q .0 t in lacking .1 (subset-members a b s q (lacking .0))
 
 -- the states of a that are absent from b, as the machine computes them
 missing-absent : (a b q : ℕ) → Member q (bitXor (bitAnd a b) a) ↔ T (absent a b q)
@@ -255,6 +259,4 @@ lowest-none a b e = at (firstFrom (absent a b) 64 0) refl
   where
     at : (found : Option ℕ) → firstFrom (absent a b) 64 0 ≡ found → found ≡ none
     at none r = refl
-    at (some q) r =
-        let lacking = absent-means a b q .0 (first-from-some (absent a b) 64 0 r .2) in
-        absurd (lacking .1 (subset-members a b (holds e) q (lacking .0)))
+    at (some q) r = absurd (one-absent a b q (first-from-some (absent a b) 64 0 r .2) (holds e))

@@ -33,10 +33,20 @@ impl<'a, Entered: EnteredTable> Blockers<'a, Entered> {
         self.held == self.masks.len()
     }
 
+    /// "A case is blocked at level i >= 1 if it is a subset of a blocker of level i or more; at level
+    /// 0 if it does not contain I."
+    pub fn block(&self, initial: u64, case: u64, level: u32) -> bool {
+        if level == 0 {
+            !contains(case, initial)
+        } else {
+            self.cover(case, level)
+        }
+    }
+
     /// Whether the case is a subset of a blocker of this level or more. Most of a run's time is spent
     /// here, and less of it while this is a function of its own.
     #[inline(never)]
-    pub fn cover(&self, case: u64, level: u32) -> bool {
+    fn cover(&self, case: u64, level: u32) -> bool {
         let covers = |mask, its_level| (its_level >= level) & contains(mask, case);
         self.first(0..self.held, covers).is_some()
     }
