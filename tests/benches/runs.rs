@@ -1,15 +1,15 @@
-//! `afa_run` against the machine written in Rust, as a table in Markdown: `cargo bench`, after the
-//! library was built as for the tests.
+//! `afa_run` and `afa_accepts` against the machine and the word test written in Rust, as a table in
+//! Markdown: `cargo bench`, after the library was built as for the tests.
 //!
-//! Both run in one process and in turn, on the same image and in rooms of 1,024 places that are
-//! cleared before each run, without hints; clearing and comparing are not timed. Times are the
+//! Both sides go in one process and in turn, on the same image. Runs are lent rooms of 1,024 places
+//! that are cleared before each, and no hints; clearing and comparing are not timed. Times are the
 //! processor's for this thread, so that what else the machine does counts little. The machine here has
-//! no table of when blockers entered. The five numbers and all other tables are compared after each
-//! run, and a difference ends the program with an error.
+//! no table of when blockers entered. The numbers and all other tables are compared after each turn,
+//! and a difference ends the program with an error.
 
 use afa_tests::afa;
 use afa_tests::generate::runs::run_model_of;
-use afa_tests::image::{rings, Model};
+use afa_tests::image::{all_states, rings, Model, Row};
 use afa_tests::machine;
 use afa_tests::random::Random;
 use afa_tests::tables::{Answer, Tables};
@@ -32,15 +32,21 @@ struct Time {
 const CLOCK_THREAD_CPUTIME_ID: c_int = 3;
 
 const PLACES: usize = 1024;
+const WORD_LENGTH: usize = 10_000;
 
-/// A round has one run of either side or more, so that it lasts at least so long.
+/// A round has one turn of either side or more, so that it lasts at least so long.
 const ROUND: Duration = Duration::from_millis(40);
 const ROUNDS: usize = 11;
 
 struct Subject {
     name: String,
     model: Model,
-    allowance: u64,
+    asked: Asked,
+}
+
+enum Asked {
+    Run { allowance: u64 },
+    Word(Vec<u8>),
 }
 
 fn main() -> ExitCode {
@@ -52,7 +58,9 @@ fn main() -> ExitCode {
             return ExitCode::FAILURE;
         }
     }
-    println!("\n{ROUNDS} rounds each; times are those of one run, the median of the rounds.");
+    println!(
+        "\n{ROUNDS} rounds each; times are those of one run or word, the median of the rounds."
+    );
     ExitCode::SUCCESS
 }
 
@@ -61,9 +69,10 @@ fn subjects() -> Vec<Subject> {
     let rings = ring_sizes.map(|sizes| Subject {
         name: format!("rings {sizes:?}"),
         model: rings(sizes),
-        allowance: 1 << 22,
+        asked: Asked::Run { allowance: 1 << 22 },
     });
-    rings.into_iter().chain(random_subjects()).collect()
+    let runs = rings.into_iter().chain(random_subjects());
+    runs.chain(word_subjects()).collect()
 }
 
 /// Of the models of 24 to 64 states and 1 to 8 symbols that the seeds 0, 1, 2, .. give, the first 20
@@ -88,7 +97,7 @@ fn random_subjects() -> Vec<Subject> {
         subjects.push(Subject {
             name: format!("seed {seed}: n {states}, k {symbols}, m {rows}"),
             model,
-            allowance,
+            asked: Asked::Run { allowance },
         });
         if subjects.len() == 20 {
             break;
@@ -97,24 +106,70 @@ fn random_subjects() -> Vec<Subject> {
     subjects
 }
 
+/// Words over models of two symbols whose first rows, one for each state, bring all states in from every
+/// case; and over one that lacks the rows of a state, so that all rows must be walked.
+fn word_subjects() -> Vec<Subject> {
+    let mut random = Random::seeded(0);
+    // 60 rows cannot bring 64 states in.
+    let sizes = [(16, 60), (32, 60), (48, 60), (64, 240), (16, 60)];
+    let mut subjects = sizes.map(|(states, rows)| {
+        let mut model = Model::plain(states, 2, 0);
+        model.initial = all_states(states);
+        for symbol_rows in &mut model.rows {
+            let first = (0..states as u8).map(|state| Row { state, case: 0 });
+            let others = (states..rows).map(|_| Row {
+                state: random.below(states) as u8,
+                case: random.number() & model.initial,
+            });
+            symbol_rows.extend(first.chain(others));
+        }
+        Subject {
+            name: format!("word, n {states}, {rows} rows a symbol, all in after {states}"),
+            model,
+            asked: Asked::Word((0..WORD_LENGTH).map(|_| random.below(2) as u8).collect()),
+        }
+    });
+    let [.., never] = &mut subjects;
+    never.name = "word, n 16, 60 rows a symbol, never all in".into();
+    for row in never.model.rows.iter_mut().flatten() {
+        row.state %= 15;
+    }
+    subjects.into()
+}
+
+/// The library's answer.
+fn ask_library(image: &[u8], asked: &Asked, tables: &mut Tables) -> Answer {
+    match asked {
+        Asked::Run { allowance } => {
+            let mut counts = [0; 4];
+            let number = afa::run::run(image, tables.lend(), &[], *allowance, &mut counts);
+            let [steps, level, blockers, hints_accepted] = counts;
+            Answer::of_numbers([number, steps, level, blockers, hints_accepted])
+        }
+        Asked::Word(word) => Answer::of_numbers([afa::accepts(image, word), 0, 0, 0, 0]),
+    }
+}
+
+/// The same in Rust.
+fn ask_rust(image: &[u8], asked: &Asked, tables: &mut Tables) -> Answer {
+    match asked {
+        Asked::Run { allowance } => {
+            machine::run_without_entered(image, tables.lend(), &[], *allowance)
+        }
+        Asked::Word(word) => Answer::of_numbers([machine::accepts(image, word), 0, 0, 0, 0]),
+    }
+}
+
 /// Prints the subject's line, or answers in what the two sides differ.
 fn measure(subject: &Subject) -> Result<(), String> {
     let image = subject.model.image();
-    let run_library = |tables: &mut Tables| {
-        let mut counts = [0; 4];
-        let (image, rooms) = (black_box(&image), tables.lend());
-        let number = afa::run::run(image, rooms, &[], subject.allowance, &mut counts);
-        let [steps, level, blockers, hints_accepted] = counts;
-        Answer::of_numbers([number, steps, level, blockers, hints_accepted])
-    };
-    let run_rust = |tables: &mut Tables| {
-        let (image, rooms) = (black_box(&image), tables.lend());
-        machine::run_without_entered(image, rooms, &[], subject.allowance)
-    };
+    let (image, asked) = (&image, &subject.asked);
+    let run_library = |tables: &mut Tables| ask_library(black_box(image), black_box(asked), tables);
+    let run_rust = |tables: &mut Tables| ask_rust(black_box(image), black_box(asked), tables);
     let mut tables = [0, 1].map(|_| Tables::cleared(PLACES, PLACES));
     let [library_tables, rust_tables] = &mut tables;
 
-    // The first run of either side also tells how many make a round.
+    // The first turn of either side also tells how many make a round.
     let (time, answer) = timed(rust_tables, run_rust);
     timed(library_tables, run_library);
     let repeats = ROUND.as_nanos().div_ceil(2 * time.as_nanos().max(1)) as u32;
@@ -150,7 +205,7 @@ fn measure(subject: &Subject) -> Result<(), String> {
     println!(
         "| {} | {} | {:.1?} | {:.1?} | {:.2} ({:.2} to {:.2}) |",
         subject.name,
-        five_numbers(&answer),
+        shown(asked, &answer),
         library_times[ROUNDS / 2],
         rust_times[ROUNDS / 2],
         ratios[ROUNDS / 2],
@@ -170,7 +225,7 @@ fn compared(tables: &Tables) -> (&[u64], &[u32], &[u64], &[u8]) {
     )
 }
 
-/// One run in cleared tables.
+/// One turn in cleared tables.
 fn timed(tables: &mut Tables, run: impl Fn(&mut Tables) -> Answer) -> (Duration, Answer) {
     tables.masks.fill(0);
     tables.levels.fill(0);
@@ -193,9 +248,14 @@ fn processor_time() -> Duration {
     Duration::from_secs(time.seconds) + Duration::from_nanos(time.nanoseconds)
 }
 
-fn five_numbers(answer: &Answer) -> String {
-    format!(
-        "{} {} {} {} {}",
-        answer.number, answer.steps, answer.level, answer.blockers, answer.hints_accepted
-    )
+/// The five numbers of a run, or whether the word is accepted.
+fn shown(asked: &Asked, answer: &Answer) -> String {
+    let number = answer.number;
+    match asked {
+        Asked::Word(_) => format!("{number}"),
+        Asked::Run { .. } => format!(
+            "{number} {} {} {} {}",
+            answer.steps, answer.level, answer.blockers, answer.hints_accepted
+        ),
+    }
 }

@@ -1,6 +1,6 @@
 //! The library's C functions, and the calls of them with every slice in guarded memory. Each call is
-//! made once with the slices at either edge, and both must answer alike. `afa_run` and `afa_why` stand
-//! in modules of their own.
+//! made once with the slices at either edge, and both must answer alike. `afa_run`, `afa_why` and
+//! `afa_walk` stand in modules of their own.
 
 use crate::compare::hexadecimal;
 use crate::fault;
@@ -8,6 +8,7 @@ use crate::guarded::{ReadOnly, Writable, EDGES};
 use std::slice;
 
 pub mod run;
+pub mod walk;
 pub mod why;
 
 /// As `include/afa.h` declares them.

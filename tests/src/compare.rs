@@ -8,6 +8,7 @@ use crate::image::Model;
 use std::fmt::Display;
 
 pub mod run;
+pub mod walk;
 pub mod why;
 
 /// What `head` holds before a call, other numbers for other images.

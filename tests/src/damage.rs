@@ -42,3 +42,14 @@ pub const DAMAGES: [(&str, Damage); 26] = [
     ("random bytes", random_bytes),
     ("random bytes in an image's frame", random_content),
 ];
+
+/// Damages the image so often, and says how.
+pub fn damage(image: &mut Vec<u8>, random: &mut Random, times: usize) -> String {
+    let mut origin = String::from("damage");
+    for _ in 0..times {
+        let (name, damage) = random.pick(&DAMAGES);
+        damage(image, random);
+        origin = origin + ": " + name;
+    }
+    origin
+}

@@ -9,6 +9,7 @@ pub mod blockers;
 pub mod hints;
 pub mod runs;
 pub mod stops;
+pub mod walks;
 
 /// A number of states or symbols.
 fn size(random: &mut Random) -> usize {

@@ -17,4 +17,5 @@ pub mod rearrange;
 pub mod search;
 pub mod tables;
 pub mod text;
+pub mod walk;
 pub mod why;

@@ -99,6 +99,22 @@ pub fn blocked(initial: u64, rooms: Rooms, held: usize, asked: &[(u64, u32)]) ->
         .collect()
 }
 
+/// The word test: 1 or 0, by whether "F, taken back by its symbols from last to first, gives a set that
+/// contains I", or the number under which the image or the word is refused.
+pub fn accepts(image: &[u8], word: &[u8]) -> u64 {
+    let head = match check(image) {
+        Ok(head) => head,
+        Err(number) => return number,
+    };
+    if word.iter().any(|&symbol| u64::from(symbol) >= head.k) {
+        return 32;
+    }
+    let automaton = Automaton::new(image, &head);
+    let back = |case, &symbol: &u8| automaton.backward_set(symbol.into(), case);
+    let set = word.iter().rev().fold(automaton.final_set, back);
+    contains(set, automaton.initial).into()
+}
+
 /// Cases are pending at consecutive levels from N down, so the first place of word room is that of
 /// level N and the last one in use that of the lowest.
 struct Machine<'a, Entered, Observe> {

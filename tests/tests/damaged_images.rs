@@ -2,7 +2,7 @@
 
 use afa_tests::afa::Library;
 use afa_tests::compare::compare_image;
-use afa_tests::damage::DAMAGES;
+use afa_tests::damage::damage;
 use afa_tests::generate;
 use afa_tests::random::Random;
 
@@ -21,12 +21,7 @@ fn damaged_images() {
         let mut image = valid[random.below(valid.len())].clone();
         let symbols = usize::from(image[1]);
         let damages = random.pick(&[1, 1, 1, 2, 2, 3, 4]);
-        let mut origin = String::from("damage");
-        for _ in 0..damages {
-            let (name, damage) = random.pick(&DAMAGES);
-            damage(&mut image, &mut random);
-            origin = origin + ": " + name;
-        }
+        let origin = damage(&mut image, &mut random, damages);
         // One of them would give 32 if the image were not refused before.
         let words = [
             generate::word(&mut random, symbols),

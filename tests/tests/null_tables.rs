@@ -3,6 +3,7 @@
 
 use afa_tests::afa::interface::{afa_accepts, afa_read};
 use afa_tests::afa::run::interface::afa_run;
+use afa_tests::afa::walk::interface::afa_walk;
 use afa_tests::afa::why::interface::afa_why;
 use afa_tests::image::{model_a, model_b, model_c, model_d};
 use afa_tests::machine;
@@ -160,5 +161,16 @@ fn why() {
             };
             assert_eq!((answered, found), (number, expected), "{level}, {case:x}");
         }
+    }
+}
+
+/// Not declared there, and lent an image like the others.
+#[test]
+fn walk() {
+    for symbol in [0, 1, u64::MAX] {
+        let mut walked = [7; 2];
+        // SAFETY: what is null has no elements, and two numbers are walked.
+        let number = unsafe { afa_walk(null(), 0, symbol, 1, walked.as_mut_ptr()) };
+        assert_eq!((number, walked), (20, [7; 2]), "symbol {symbol}");
     }
 }

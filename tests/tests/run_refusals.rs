@@ -2,7 +2,7 @@
 
 use afa_tests::afa::run::run_untouchable;
 use afa_tests::compare::run::Comparison;
-use afa_tests::damage::DAMAGES;
+use afa_tests::damage::damage;
 use afa_tests::generate::{self, runs::run_model};
 use afa_tests::guarded::{Untouchable, EDGES};
 use afa_tests::image::{broken_model_c, model_c, Model};
@@ -160,12 +160,8 @@ fn damaged_images() {
     images.extend((0..200).map(|_| run_model(&mut random).image()));
     for _ in 0..30_000 {
         let mut image = images[random.below(images.len())].clone();
-        let mut origin = String::from("damage");
-        for _ in 0..random.pick(&[1, 1, 2, 3]) {
-            let (name, damage) = random.pick(&DAMAGES);
-            damage(&mut image, &mut random);
-            origin = origin + ": " + name;
-        }
+        let damages = random.pick(&[1, 1, 2, 3]);
+        let origin = damage(&mut image, &mut random, damages);
         let [blocker_room, word_room, hints] = [6, 6, 12].map(|bound| random.below(bound));
         let [masks, levels, entered] = [blocker_room; 3];
         let lengths = [masks, levels, entered, word_room, word_room, hints];

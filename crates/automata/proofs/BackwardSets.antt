@@ -1,18 +1,17 @@
--- The laws of backward sets: which states are in one, that it grows with the case, that only the set of a symbol's rows matters; and what the walk
--- over the rows has gathered. Assumes nothing.
-use Prim.Native.Nat.{ℕ, suc, _+_, _-_, _*_, _/_, _%_, _≤_, _<_}
+-- The laws of backward sets: which states are in one, that it grows with the case and the rows, that only the set of a symbol's rows matters, and what the
+-- first rows that bring all states in say of all rows. Assumes nothing.
+use Prim.Native.Nat.{ℕ, _≤_, _<_}
 use mathlib.Core.Path.{_≡_, refl, sym, ap, subst, _∙_}
 use mathlib.Core.Bool.{Bool, true, false}
 use mathlib.Core.List.{List, [], _∷_}
 use mathlib.Core.Logic.{_⊎_, inl, inr, _↔_}
-use native.Mathlib.Omega.{arith}
 use lib.Dec.{T}
-use lib.ListN.{length}
-use Rattle.lists.specs.Tests.{choose}
+use lib.ListN.{length, take}
+use lib.Seq.{take-length}
 use Rattle.lists.specs.Lists.{_∈_, here, there, Each}
 use Rattle.lists.proofs.Tests.{holds, fails, choose-true, choose-false}
-use Rattle.lists.proofs.Lists.{in-none, in-cases}
-use Rattle.masks.specs.Sets.{Member, subset, union, single, within}
+use Rattle.lists.proofs.Lists.{in-none, in-cases, in-taken, in-more-taken, LeastOr, least-one, or-else-least}
+use Rattle.masks.specs.Sets.{Member, subset, union, single, full, within}
 use Rattle.masks.proofs.Laws.{
   subset-reflexive,
   subset-transitive,
@@ -22,11 +21,10 @@ use Rattle.masks.proofs.Laws.{
   union-members,
   single-members,
   members-within,
+  within-full,
 }
-use Rattle.automata.specs.Bytes.{byteAt}
-use Rattle.automata.specs.Image.{Row, Valid, symbolsOf, offsetOf, sizeOf, rowAt, rowsFrom, rowsOf}
-use Rattle.automata.specs.Automaton.{Automaton, withRow, withRows, backward, takenBack, SameAutomaton}
-use Rattle.automata.proofs.ValidImage.{valid-kept, span-in, span-nines, pair-in, rows-of-symbol, valid-rows}
+use Rattle.automata.specs.Image.{Row}
+use Rattle.automata.specs.Automaton.{Automaton, withRow, withRows, backward, bringAllIn, rowsWalked, takenBack, SameAutomaton}
 
 -- the row is one of state q, and its case is inside X
 pub record Leads (row : Row) (q X : ℕ) : Type 0 where
@@ -128,6 +126,10 @@ backward-same rows others X f =
     subset-antisymmetric (backward rows X) (backward others X) (backward-grows rows others X X (λ row. f row .0) (subset-reflexive X))
     (backward-grows others rows X X (λ row. f row .1) (subset-reflexive X))
 
+-- more first rows, a larger backward set
+first-rows-grow : (rows : List Row) (X i j : ℕ) → i ≤ j → T (subset (backward (take i rows) X) (backward (take j rows) X))
+first-rows-grow rows X i j l = backward-grows (take i rows) (take j rows) X X (λ row. in-more-taken i j rows l) (subset-reflexive X)
+
 -- a backward set has only states of rows
 pub backward-within : (n : ℕ) (rows : List Row) (X : ℕ) → Each (λ row. row .state < n) rows → T (within n (backward rows X))
 backward-within n rows X f = members-within n (backward rows X) (λ q i. below q (backward-members rows X q .0 i))
@@ -144,77 +146,45 @@ taken-back-same A B same (s ∷ word) symbols X =
     backward-same (A .rows s) (B .rows s) (takenBack A word X) (same .rows s (symbols s (here refl)))
     ∙ ap (backward (B .rows s)) (taken-back-same A B same word (λ t m. symbols t (there m)) X)
 
--- one row, by the test of its case
-pub row-tested : (X set : ℕ) (row : Row) (case result : ℕ) (b : Bool) → case ≡ row .case → b ≡ subset case X
-    → result ≡ choose b (union set (single (row .state))) set → result ≡ withRow X set row
-unfolding withRow
-row-tested X set row case result b c e r = r ∙ ap (λ (x : Bool). choose x (union set (single (row .state))) set) (e ∙ ap (λ (x : ℕ). subset x X) c)
+module _ (n : ℕ) (rows : List Row) (X : ℕ) where
+  -- fewer first rows do not bring all states in where more do not
+  pub not-in-before : {i j : ℕ} → i ≤ j → (T (bringAllIn n rows X j) → ⊥) → T (bringAllIn n rows X i) → ⊥
+  unfolding bringAllIn
+  not-in-before {i} {j} l f t = f (subset-transitive (full n) (backward (take i rows) X) (backward (take j rows) X) t (first-rows-grow rows X i j l))
 
--- whole rows stand from a place to the end, and each row's state fits a mask
-pub record Span (image : List ℕ) (at end : ℕ) : Type 0 where
-  pub ordered : at ≤ end
-  pub inside : end ≤ length image
-  pub nines : (end - at) % 9 ≡ 0
-  pub states : Each (λ row. row .state < 64) (rowsFrom image ((end - at) / 9) at)
+  -- the number walked is the least that brings all states in, or that of all rows, and no other is
+  pub walked-least : LeastOr (bringAllIn n rows X) (length rows) (rowsWalked n rows X)
+  unfolding rowsWalked
+  walked-least = or-else-least (bringAllIn n rows X) (length rows)
 
--- the walk over the rows from start to end, before the row at `at`: the rows that are left, and what they add to the states gathered
-pub record RowsAhead (image : List ℕ) (start end X at set : ℕ) : Type 0 where
-  pub span : Span image at end
-  pub rest : withRows X set (rowsFrom image ((end - at) / 9) at) ≡ withRows X 0 (rowsFrom image ((end - start) / 9) start)
+  pub walked-is : (count : ℕ) → LeastOr (bringAllIn n rows X) (length rows) count → count ≡ rowsWalked n rows X
+  walked-is count least = least-one (bringAllIn n rows X) (length rows) count _ least walked-least
 
-module _ {image : List ℕ} {start end X at set : ℕ} (ahead : RowsAhead image start end X at set) where
-  one-more : at < end → at + 9 ≤ end
-  one-more l = omega (arith, ahead .span .nines)
+  module _ (states : Each (λ row. row .state < n) rows) where
+    first-within : (count : ℕ) → T (subset (backward (take count rows) X) (full n))
+    first-within count = within-full n _ (backward-within n (take count rows) X (λ row m. states row (in-taken count rows m)))
 
-  pub row-inside : at < end → at + 9 ≤ length image
-  row-inside l = omega (arith, one-more l, ahead .span .inside)
+    -- first rows bring all states in exactly if their backward set is the set of all states
+    pub all-in-full : (count : ℕ) → T (bringAllIn n rows X count) ↔ (backward (take count rows) X ≡ full n)
+    unfolding bringAllIn
+    all-in-full count = (
+      λ t. subset-antisymmetric (backward (take count rows) X) (full n) (first-within count) t,
+      λ e. rw e (subset-reflexive (full n)),
+    )
 
-  first-row : at < end → rowsFrom image ((end - at) / 9) at ≡ rowAt image at ∷ rowsFrom image ((end - (at + 9)) / 9) (at + 9)
-  unfolding rowsFrom
-  first-row l = let e : (end - at) / 9 ≡ suc ((end - (at + 9)) / 9) = omega (arith, ahead .span .nines) in rw e
+    -- and then all rows have the same backward set
+    pub all-in-stays : (count : ℕ) → T (bringAllIn n rows X count) → backward (take count rows) X ≡ backward rows X
+    unfolding bringAllIn
+    all-in-stays count t =
+        subset-antisymmetric (backward (take count rows) X) (backward rows X)
+        (backward-grows (take count rows) rows X X (λ row. in-taken count rows) (subset-reflexive X))
+        (subset-transitive (backward rows X) (full n) (backward (take count rows) X) (within-full n _ (backward-within n rows X states)) t)
 
-  pub state-fits : at < end → byteAt image at < 64
-  state-fits l = ahead .span .states (rowAt image at) (rw (first-row l) (here refl))
-
-  pub walk-goes : (more : ℕ) → at < end → more ≡ withRow X set (rowAt image at) → RowsAhead image start end X (at + 9) more
-  unfolding withRows
-  walk-goes more l e =
-      record {
-        span = record {
-          ordered = one-more l;
-          inside = ahead .span .inside;
-          nines = omega (arith, ahead .span .nines);
-          states = λ row m. ahead .span .states row (rw (first-row l) (there m));
-        };
-        rest = rw e (rw (first-row l) at (ahead .rest));
-      }
-
--- the walk over the rows of a symbol of a valid image
-module _ (image : List ℕ) (s : ℕ) (asked : Valid image × (s < symbolsOf image)) where
-  pub pair-readable : 28 + 8 * s ≤ length image
-  pair-readable = pair-in image (asked .0) s (asked .1)
-
-  module _ (start size : ℕ) (eo : start ≡ offsetOf image s) (ez : size ≡ sizeOf image s) where
-    span-rows : rowsFrom image ((start + size - start) / 9) start ≡ rowsOf image s
-    span-rows = let count : (start + size - start) / 9 ≡ sizeOf image s / 9 = omega (arith, ez) in rw (rows-of-symbol image s (asked .1), count, eo)
-
-    pub walk-starts : (X : ℕ) → RowsAhead image start (start + size) X start 0
-    walk-starts X =
-        record {
-          span = record {
-            ordered = omega arith;
-            inside = omega (arith, span-in image (asked .0) s (asked .1));
-            nines = omega (arith, span-nines image (asked .0) s (asked .1));
-            states = λ row m.
-                let fits = valid-kept image (asked .0) .states-fit in
-                let below = valid-rows image (asked .0) s (asked .1) row (rw span-rows at m) .state-below in
-                omega arith;
-          };
-          rest = refl;
-        }
-
-    pub walk-ends : {X at set : ℕ} → RowsAhead image start (start + size) X at set → start + size ≤ at → set ≡ backward (rowsOf image s) X
-    unfolding backward withRows rowsFrom
-    walk-ends {X} {at} ahead l =
-        let none : (start + size - at) / 9 ≡ 0 = omega arith in
-        (rw none at (ahead .rest)) ∙ ap (withRows X 0) span-rows
+    -- the rows walked have the backward set of all rows
+    pub walked-same : backward (take (rowsWalked n rows X) rows) X ≡ backward rows X
+    walked-same = at (walked-least .holds-or)
+      where
+        at : T (bringAllIn n rows X (rowsWalked n rows X)) ⊎ (rowsWalked n rows X ≡ length rows)
+            → backward (take (rowsWalked n rows X) rows) X ≡ backward rows X
+        at (inl t) = all-in-stays (rowsWalked n rows X) t
+        at (inr e) = ap (λ (some : List Row). backward some X) (ap (λ (count : ℕ). take count rows) e ∙ take-length rows)

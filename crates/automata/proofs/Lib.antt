@@ -3,5 +3,6 @@ pub mod Checks
 pub mod ValidImage
 pub mod Reading
 pub mod BackwardSets
+pub mod RowWalks
 pub mod AcceptedWords
 pub mod WordTests

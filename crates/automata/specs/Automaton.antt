@@ -1,11 +1,13 @@
 -- The automaton of 01, its backward sets, and when two images hold one automaton. Assumes nothing: these are definitions.
 use Prim.Native.Nat.{ℕ, _<_}
 use mathlib.Core.Path.{_≡_}
+use mathlib.Core.Bool.{Bool}
 use mathlib.Core.List.{List, [], _∷_}
 use mathlib.Core.Logic.{_↔_}
+use lib.ListN.{length, take}
 use Rattle.lists.specs.Tests.{choose}
-use Rattle.lists.specs.Lists.{_∈_}
-use Rattle.masks.specs.Sets.{subset, union, single}
+use Rattle.lists.specs.Lists.{_∈_, firstFrom, orElse}
+use Rattle.masks.specs.Sets.{subset, union, single, full}
 use Rattle.automata.specs.Image.{Row, statesOf, symbolsOf, initialOf, finalOf, rowsOf}
 
 -- "States 0 to n−1, symbols 0 to k−1. .. There is an initial case I and a final set F"; and the rows of each symbol
@@ -37,6 +39,14 @@ withRows X set (row ∷ rows) = withRows X (withRow X set row) rows
 -- "The backward set of a case X by symbol s is the set of states with a row by s whose case is a subset of X." Here of the symbol's rows.
 unfoldable pub backward : List Row → ℕ → ℕ
 backward rows X = withRows X 0 rows
+
+-- the first `count` rows bring all n states in
+unfoldable pub bringAllIn : ℕ → List Row → ℕ → ℕ → Bool
+bringAllIn n rows X count = subset (full n) (backward (take count rows) X)
+
+-- 02, 3: "how many of the symbol's rows it walked: the least number of first rows that brings all n in, or all rows if they never are"
+unfoldable pub rowsWalked : ℕ → List Row → ℕ → ℕ
+rowsWalked n rows X = orElse (firstFrom (bringAllIn n rows X) (length rows) 0) (length rows)
 
 -- the case taken back by the word's symbols, "from last to first"
 unfoldable pub takenBack : Automaton → List ℕ → ℕ → ℕ

@@ -1,6 +1,7 @@
 pub mod Bytes
 pub mod Image
 pub mod Automaton
+pub mod Walk
 pub mod Acceptance
 pub mod WordTest
 pub mod Answers

@@ -33,7 +33,7 @@ fn taken_back(image: &[u8], word: &[u8], x: u64) -> u64
     let mut i = word.len();
     while 0 < i {
         i -= 1;
-        case = backward(image, Symbol(word[i]), case);
+        case = backward(image, Symbol(word[i]), case).set;
     }
     case
 }

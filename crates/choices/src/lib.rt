@@ -45,7 +45,7 @@ pub fn first_symbol(
 {
     'symbols: for s in 0..head.symbols {
         let symbol = Symbol(s);
-        let p = backward(image, symbol, x);
+        let p = backward(image, symbol, x).set;
         if masks::subset(p, x) {
             continue 'symbols;
         }
@@ -101,7 +101,7 @@ fn passes(
     }
     let mut symbol = Symbol(0);
     while symbol.0 < head.symbols {
-        let p = backward(image, symbol, y);
+        let p = backward(image, symbol, y).set;
         if !settled(head.initial, masks, levels, below, y, p) {
             return false;
         }
@@ -198,7 +198,7 @@ pub fn rises(
     let mask = masks[place];
     let mut symbol = Symbol(0);
     while symbol.0 < head.symbols {
-        let p = backward(image, symbol, mask);
+        let p = backward(image, symbol, mask).set;
         if !reasons::why(head.initial, masks, levels, level, p).is_there() {
             return false;
         }

@@ -1,6 +1,6 @@
 -- The laws of membership, of tests over lists and numbers, and of keeping. Assumes nothing.
 use Prim.Native.Nat.{ℕ, zero, suc, _+_, _-_, _≤_, _<_}
-use mathlib.Core.Path.{_≡_, refl, sym, ap, _∙_}
+use mathlib.Core.Path.{_≡_, refl, sym, ap, subst, _∙_}
 use mathlib.Core.Bool.{Bool, true, false}
 use mathlib.Core.List.{List, [], _∷_, _++_}
 use mathlib.Core.Logic.{_⊎_, inl, inr}
@@ -9,10 +9,10 @@ use native.Mathlib.Decide.{ℕ-discrete}
 use native.Mathlib.Numerals.{add-one}
 use native.Mathlib.Omega.{arith}
 use lib.Dec.{T}
-use lib.ListN.{length, getD, drop, drop-of-length-le}
+use lib.ListN.{length, getD, take, drop, take-append-drop, drop-of-length-le}
 use lib.Seq.{drop-cons}
 use Rattle.lists.specs.Tests.{_and_, _or_, choose}
-use Rattle.lists.specs.Lists.{_∈_, here, there, Each, any, all, keep, firstFrom, eachFrom}
+use Rattle.lists.specs.Lists.{_∈_, here, there, Each, any, all, keep, firstFrom, orElse, eachFrom}
 use Rattle.lists.proofs.Tests.{holds, fails, and-left, and-right, and-both, or-cases, or-left, or-right, or-joined, decide}
 
 -- the first element for which the test holds
@@ -64,6 +64,17 @@ module _ {A : Type 0} where
         at : (x ≡ y) ⊎ x ∈ (a ++ b) → (x ≡ y) ⊎ x ∈ (z ∷ a ++ b)
         at (inl e) = inl e
         at (inr k) = inr (there k)
+
+  -- the first elements of a list: they are of it, and more of them have no fewer
+  pub in-taken : {x : A} (i : ℕ) (l : List A) → x ∈ take i l → x ∈ l
+  in-taken {x} i l m = subst (λ (whole : List A). x ∈ whole) (take-append-drop i l) (in-left (drop i l) m)
+
+  pub in-more-taken : {x : A} (i j : ℕ) (l : List A) → i ≤ j → x ∈ take i l → x ∈ take j l
+  in-more-taken zero j l le m = absurd (in-none m)
+  in-more-taken (suc i) j [] le m = absurd (in-none m)
+  in-more-taken (suc i) zero (y ∷ l) le m = absurd (omega arith)
+  in-more-taken (suc i) (suc j) (y ∷ l) le (here e) = here e
+  in-more-taken (suc i) (suc j) (y ∷ l) le (there m) = there (in-more-taken i j l (omega arith) m)
 
   -- Each: of one element more
   pub each-more : {P : A → Type 0} {x : A} {l : List A} → P x → Each P l → Each P (x ∷ l)
@@ -250,6 +261,34 @@ first-from-least test (suc count) start s l h t f =
         near : Dec (start ≡ s) → firstFrom test count (suc start) ≡ some s
         near (yes e) = absurd (fails q (rw e t))
         near (no n) = rec (omega arith)
+
+-- s is the least number for which the test holds, or `bound` where it holds of none below
+pub record LeastOr (test : ℕ → Bool) (bound s : ℕ) : Type 0 where
+  pub within : s ≤ bound
+  pub not-before : (p : ℕ) → p < s → T (test p) → ⊥
+  pub holds-or : T (test s) ⊎ (s ≡ bound)
+
+pub or-else-least : (test : ℕ → Bool) (bound : ℕ) → LeastOr test bound (orElse (firstFrom test bound 0) bound)
+unfolding orElse
+or-else-least test bound = at (firstFrom test bound 0) refl
+  where
+    at : (found : Option ℕ) → firstFrom test bound 0 ≡ found → LeastOr test bound (orElse found bound)
+    at none e =
+        record { within = omega arith; not-before = λ p l. first-from-none test bound 0 e p (omega arith) (omega arith); holds-or = inr refl }
+    at (some s) e =
+        let there = first-from-some test bound 0 e in
+        record { within = omega (arith, there .1); not-before = λ p l. first-from-before test bound 0 e p (omega arith) l; holds-or = inl (there .2) }
+
+-- there is one such number
+pub least-one : (test : ℕ → Bool) (bound s other : ℕ) → LeastOr test bound s → LeastOr test bound other → s ≡ other
+least-one test bound s other a b = omega (arith, not-less a b, not-less b a)
+  where
+    not-less : {x y : ℕ} → LeastOr test bound x → LeastOr test bound y → x < y → ⊥
+    not-less {x} {y} a b l = near (a .holds-or)
+      where
+        near : T (test x) ⊎ (x ≡ bound) → ⊥
+        near (inl t) = b .not-before x l t
+        near (inr e) = omega (arith, b .within)
 
 -- eachFrom: the test holds of each of the numbers
 pub each-from-at : (test : ℕ → Bool) (count start : ℕ) → T (eachFrom test count start) → (s : ℕ) → start ≤ s → s < start + count → T (test s)

@@ -1,5 +1,5 @@
 -- What is known of a joined test, as facts: `T b` is the fact that the test b holds. Assumes nothing.
-use mathlib.Core.Path.{_≡_, refl}
+use mathlib.Core.Path.{_≡_, refl, sym}
 use mathlib.Core.Bool.{Bool, true, false, not}
 use mathlib.Core.Logic.{_⊎_, inl, inr}
 use lib.Dec.{T}
@@ -19,6 +19,11 @@ is-true false t = absurd t
 pub is-false : (b : Bool) → (T b → ⊥) → b ≡ false
 is-false true f = absurd (f tt)
 is-false false f = refl
+
+-- two tests that hold of the same are the same
+pub same-test : (a b : Bool) → (T a → T b) → (T b → T a) → a ≡ b
+same-test true b f g = sym (is-true b (f (holds refl)))
+same-test false b f g = sym (is-false b g)
 
 pub decide : (b : Bool) → T b ⊎ (T b → ⊥)
 decide true = inl tt

@@ -36,6 +36,11 @@ unfoldable pub firstFrom : (ℕ → Bool) → ℕ → ℕ → Option ℕ
 firstFrom test zero start = none
 firstFrom test (suc count) start = let later = firstFrom test count (suc start) in choose (test start) (some start) later
 
+-- the number that was found, or the other where there is none
+unfoldable pub orElse : Option ℕ → ℕ → ℕ
+orElse none other = other
+orElse (some found) other = found
+
 -- the test holds of each of the `count` numbers from `start` on
 unfoldable pub eachFrom : (ℕ → Bool) → ℕ → ℕ → Bool
 eachFrom test zero start = true

@@ -1,4 +1,5 @@
--- The backward system of a valid image: it is lawful, it accepts the words that runs accept, and one automaton gives one language. Assumes nothing.
+-- The backward system of a valid image: it is lawful, it accepts the words that runs accept, and one automaton gives one language; and the rows that are
+-- walked for a backward set. Assumes nothing.
 use Prim.Native.Nat.{ℕ, _<_}
 use mathlib.Core.Path.{_≡_, refl, sym, ap, subst, _∙_}
 use mathlib.Core.List.{List, [], _∷_}
@@ -8,14 +9,15 @@ use Rattle.lists.proofs.Tests.{or-none}
 use Rattle.lists.specs.Lists.{_∈_, any}
 use Rattle.lists.proofs.Lists.{in-none, in-cases}
 use Rattle.masks.specs.Sets.{subset, within}
-use Rattle.automata.specs.Image.{Valid, statesOf, initialOf, finalOf, rowsOf}
-use Rattle.automata.specs.Automaton.{automatonOf, backward, HoldOne}
+use Rattle.automata.specs.Image.{Valid, statesOf, symbolsOf, initialOf, finalOf, rowsOf}
+use Rattle.automata.specs.Automaton.{automatonOf, backward, rowsWalked, HoldOne}
 use Rattle.automata.specs.Automaton.{takenBack as takenBackBy}
 use Rattle.automata.specs.Acceptance.{Accepted}
 use Rattle.automata.specs.WordTest.{accepts as acceptsBack}
-use Rattle.automata.proofs.BackwardSets.{backward-monotone, backward-within}
+use Rattle.automata.proofs.BackwardSets.{backward-monotone, backward-within, walked-least, walked-same}
 use Rattle.automata.proofs.AcceptedWords.{valid-proper, accepted-means}
 use Rattle.machine.specs.Runs.{systemOf}
+use Rattle.machine.specs.Promises.{WalkPromises}
 use Rattle.machine.proofs.Language.{takenBack, Word, accepts, Lawful, SameLanguage}
 use Rattle.machine.proofs.WordTests.{same-accepts}
 
@@ -33,6 +35,17 @@ image-lawful image valid =
     only : (F : ℕ) → (F ≡ finalOf image) ⊎ F ∈ [] → T (within (statesOf image) F)
     only F (inl e) = rw e (valid-proper image valid .final-within)
     only F (inr m) = absurd (in-none m)
+
+-- the walk over the rows of a symbol keeps its promises
+pub walk-tells : (image : List ℕ) (s X : ℕ) → Valid image → s < symbolsOf image
+    → WalkPromises (statesOf image) (rowsOf image s) X (rowsWalked (statesOf image) (rowsOf image s) X)
+walk-tells image s X valid known =
+    let least = walked-least (statesOf image) (rowsOf image s) X in
+    record {
+      brings-or-all = least .holds-or;
+      least = least .not-before;
+      same-set = walked-same (statesOf image) (rowsOf image s) X (valid-proper image valid .row-state s known);
+    }
 
 -- taking back is the same in both
 taken-same : (image word : List ℕ) (X : ℕ) → takenBack (systemOf image) word X ≡ takenBackBy (automatonOf image) word X

@@ -5,6 +5,7 @@ use Rattle.machine.proofs.WordTests.{refuses-image, refuses-symbol, say
 use Rattle.machine.proofs.RunsKept.{run-promises, runs-agree, block-unpends, entered-in-order}
 use Rattle.machine.proofs.Reasons.{why-tells}
 use Rattle.machine.proofs.LentTables.{blockers-length}
+use Rattle.machine.proofs.Images.{walk-tells}
 
 pub kept : Promises
 kept = record {
@@ -23,4 +24,5 @@ kept = record {
   entered-in-order = entered-in-order;
   why-tells = why-tells;
   shorter-counts = λ masks levels. blockers-length _ _ _;
+  walk-tells = walk-tells;
 }

@@ -5,11 +5,11 @@ use mathlib.Core.Path.{_≡_}
 use mathlib.Core.List.{List, [], _∷_, _++_}
 use mathlib.Core.Logic.{_↔_, _⊎_}
 use lib.Dec.{T}
-use lib.ListN.{length, replicate}
+use lib.ListN.{length, take, replicate}
 use Rattle.lists.specs.Lists.{_∈_, Each}
 use Rattle.masks.specs.Sets.{within}
-use Rattle.automata.specs.Image.{Valid, checkImage, statesOf, symbolsOf, rowCountOf, initialOf, finalOf}
-use Rattle.automata.specs.Automaton.{automatonOf, HoldOne}
+use Rattle.automata.specs.Image.{Row, Valid, checkImage, statesOf, symbolsOf, rowCountOf, initialOf, finalOf, rowsOf}
+use Rattle.automata.specs.Automaton.{automatonOf, backward, bringAllIn, rowsWalked, HoldOne}
 use Rattle.automata.specs.Acceptance.{Accepted}
 use Rattle.automata.specs.WordTest.{wordTest}
 use Rattle.automata.specs.Answers.{readImage, imageNumber, headAfter}
@@ -108,6 +108,14 @@ pub record WhyPromises (initial : ℕ) (table : List Blocker) (i X : ℕ) (answe
   -- "none exactly if the case isn't blocked there"
   pub none-exactly : (answer ≡ nothing) ↔ (T (blocked initial table i X) → ⊥)
 
+-- 02, 3: the promises of the number of a symbol's rows that are walked for the backward set of X
+pub record WalkPromises (n : ℕ) (rows : List Row) (X walked : ℕ) : Type 0 where
+  -- "the least number of first rows that brings all n in, or all rows if they never are"
+  pub brings-or-all : T (bringAllIn n rows X walked) ⊎ (walked ≡ length rows)
+  pub least : (fewer : ℕ) → fewer < walked → T (bringAllIn n rows X fewer) → ⊥
+  -- "The set stays the same."
+  pub same-set : backward (take walked rows) X ≡ backward rows X
+
 -- two runs that reached a verdict: the same one, and words of the same length
 pub record Agreed (r s : Result) : Type 0 where
   pub verdict : r .number ≡ s .number
@@ -146,3 +154,6 @@ pub record Promises : Type 0 where
   pub why-tells : (initial : ℕ) (table : List Blocker) (i X : ℕ) → T (within 64 initial) → WhyPromises initial table i X (why initial table i X)
   -- "Of masks and levels of unlike length, the shorter table says how many blockers there are."
   pub shorter-counts : (masks levels : List ℕ) → length (blockersIn masks levels) ≡ min (length masks) (length levels)
+  -- 02, 3: "let it tell how many of the symbol's rows it walked"
+  pub walk-tells : (image : List ℕ) (s X : ℕ) → Valid image → s < symbolsOf image
+      → WalkPromises (statesOf image) (rowsOf image s) X (rowsWalked (statesOf image) (rowsOf image s) X)

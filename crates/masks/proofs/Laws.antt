@@ -7,7 +7,7 @@ use mathlib.Core.Option.{Option, none, some}
 use native.Mathlib.Nat.{zero-mul, zero-mod, one-mul, mod-eq-of-lt, lt-of-lt-of-le}
 use native.Mathlib.Decide.{ℕ-discrete, decLe}
 use native.Mathlib.Omega.{arith}
-use borrow.Author.Tests.{le-leb, lt-ltb}
+use borrow.Author.Tests.{lt-ltb}
 use lib.Bits.{bitAnd, bitOr, bitXor, differ, and-comm, and-mask, or-zero-r}
 use lib.Count.{trailingZeros, trailing-le}
 use lib.Dec.{T, eqb, leb, ltb, eqb→eq, eqb-refl, ltb→lt, lt→ltb, leb·suc-suc}
@@ -15,7 +15,7 @@ use lib.Pow.{pow-lt, pow-mono, suc-ones, ones-split, ones-lt, high}
 use mir.Val.{boolByte}
 use Rattle.lists.specs.Tests.{choose}
 use Rattle.lists.specs.Lists.{firstFrom}
-use Rattle.lists.proofs.Tests.{holds, fails, decide, and-left, and-right, and-both, neg-fails, fails-neg}
+use Rattle.lists.proofs.Tests.{holds, fails, same-test, decide, and-left, and-right, and-both, neg-fails, fails-neg}
 use Rattle.lists.proofs.Lists.{first-from-some, first-from-least}
 use Rattle.masks.specs.Sets.{digit, Member, member, subset, union, single, full, within, absent, lowestAbsent}
 use Rattle.masks.proofs.Digits.{digit-and, digit-or, digit-xor, digit-zero, same-digits, digit-power-self, digit-power-other, digit-above}
@@ -150,32 +150,38 @@ shifted-ones width n h =
     ∙ ap (λ (x : ℕ). x / 2 ^ rest) (ones-split n rest)
     ∙ high (2 ^ n - 1) rest (ones-lt rest)
 
--- the full set of a mask's 64 bits, by the ways in which n is tested
-pub full-of-none : (n : ℕ) → n ≡ 0 → 0 ≡ full (min n 64)
-unfolding full
-full-of-none n e = ap (λ (x : ℕ). 2 ^ min x 64 - 1) (sym e)
-
-pub full-of-more : (n : ℕ) → 64 ≤ n → 18446744073709551615 ≡ full (min n 64)
-unfolding full
-full-of-more n h = let e : 64 ≡ min n 64 = omega arith in ap (λ (x : ℕ). 2 ^ x - 1) e
-
-pub full-of-some : (n : ℕ) → n < 64 → 18446744073709551615 / 2 ^ (64 - n) ≡ full (min n 64)
-full-of-some n h = let e : n ≡ min n 64 = omega arith in shifted-ones 64 n (omega arith) ∙ ap (λ (x : ℕ). full x) e
-
--- a mask has no bit at n or above exactly if it is at most the full set, as a number
-pub within-test : (n set top : ℕ) → set < 2 ^ 64 → top ≡ full (min n 64) → leb set top ≡ within n set
-unfolding full within
-within-test n set top h e = go (decLe n 64)
+-- a's states add none to b exactly if a is a subset of b
+pub adds-none : (a b : ℕ) → eqb (bitOr a b) b ≡ subset a b
+unfolding union
+adds-none a b =
+    same-test (eqb (bitOr a b) b) (subset a b)
+    (λ t. members-subset a b (λ q i. subst (Member q) (eqb→eq (union a b) b t) (union-members a b q .1 (inl i))))
+    (λ t. equal-test (union a b) b
+    (subset-antisymmetric (union a b) b (members-subset (union a b) b (λ q i. inside t q (union-members a b q .0 i)))
+    (members-subset b (union a b) (λ q i. union-members a b q .1 (inr i)))))
   where
-    go : Dec (n ≤ 64) → leb set top ≡ ltb set (2 ^ n)
-    go (yes l) =
-        let m : min n 64 ≡ n = omega arith in
-        let t : suc top ≡ 2 ^ n = ap suc (e ∙ ap (λ (x : ℕ). 2 ^ x - 1) m) ∙ suc-ones n in
-        sym (leb·suc-suc set top) ∙ ap (leb (suc set)) t
-    go (no l) =
-        let m : min n 64 ≡ 64 = omega arith in
-        let t : top ≡ 2 ^ 64 - 1 = e ∙ ap (λ (x : ℕ). 2 ^ x - 1) m in
-        le-leb set top (omega arith) ∙ sym (lt-ltb set (2 ^ n) (lt-of-lt-of-le h (pow-mono {i = 64} {j = n} (omega arith))))
+    inside : T (subset a b) → (q : ℕ) → Member q a ⊎ Member q b → Member q b
+    inside t q (inl i) = subset-members a b t q i
+    inside t q (inr i) = i
+
+-- a mask has no bit at n or above, by the ways in which n is tested: it is empty, it is any, or it is at most the full set, as a number
+module _ (n set : ℕ) where
+  pub within-none : n ≡ 0 → eqb set 0 ≡ within n set
+  unfolding within
+  within-none e =
+      same-test (eqb set 0) (ltb set (2 ^ n)) (λ t. lt→ltb set (2 ^ n) (rw e (omega (arith, eqb→eq set 0 t))))
+      (λ t. equal-test set 0 (omega (arith, below t)))
+    where
+      below : T (ltb set (2 ^ n)) → set < 1
+      below t = subst (λ (m : ℕ). set < 2 ^ m) e (ltb→lt set (2 ^ n) t)
+
+  pub within-any : set < 2 ^ 64 → 64 < n → true ≡ within n set
+  unfolding within
+  within-any h l = sym (lt-ltb set (2 ^ n) (lt-of-lt-of-le h (pow-mono {i = 64} {j = n} (omega arith))))
+
+  pub within-test : (top : ℕ) → top ≡ full n → leb set top ≡ within n set
+  unfolding full within
+  within-test top e = let t : suc top ≡ 2 ^ n = ap suc e ∙ suc-ones n in sym (leb·suc-suc set top) ∙ ap (leb (suc set)) t
 
 -- absent: the test says whether the state is in a and not in b
 pub absent-means : (a b q : ℕ) → T (absent a b q) ↔ (Member q a × (Member q b → ⊥))

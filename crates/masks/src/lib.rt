@@ -2,7 +2,7 @@
 ghost use mathlib.Core.Path.{_≡_};
 ghost use mathlib.Core.Bool.{false};
 ghost use mathlib.Core.Option.{some};
-ghost use Prim.Native.Nat.{_<_, min};
+ghost use Prim.Native.Nat.{_≤_, _<_};
 ghost use Rattle.lists.specs.Tests.{choose};
 ghost use Rattle.masks.specs.Sets.{subset as isSubset, member as isMember, within as isWithin};
 ghost use Rattle.masks.specs.Sets.{union, single, full as fullSet, lowestAbsent};
@@ -15,6 +15,13 @@ pub fn subset(a: u64, b: u64) -> bool
     ensures { λ r. ⌜ r ≡ isSubset a b ⌝ }
 {
     a & b == a
+}
+
+// Whether a adds no state to b, which is whether each state of a is in b. It names a once: that keeps a row's case one load in the walk over rows.
+pub fn adds_none(a: u64, b: u64) -> bool
+    ensures { λ r. ⌜ r ≡ isSubset a b ⌝ }
+{
+    a | b == b
 }
 
 // Whether the state q is in the set.
@@ -41,23 +48,24 @@ pub fn insert_if(test: bool, q: State, set: u64) -> u64
     set | (test as u64) << q.0
 }
 
-// The set of the first n states; more than 64 do not fit a mask, so n above 64 gives all 64.
-fn full(n: u8) -> u64
-    ensures { λ r. ⌜ r ≡ fullSet (min n 64) ⌝ }
+// The set of all n states.
+pub fn full(n: u8) -> u64
+    requires { ⌜ (1 ≤ n) × (n ≤ 64) ⌝ }
+    ensures { λ r. ⌜ r ≡ fullSet n ⌝ }
 {
-    if n == 0 {
-        return 0;
-    }
-    if 64 <= n {
-        return 18446744073709551615;
-    }
     18446744073709551615u64 >> (64 - n)
 }
 
-// Whether the set has no state at n or above.
+// Whether the set has no state at n or above; no mask has a state at 64 or above.
 pub fn within(n: u8, set: u64) -> bool
     ensures { λ r. ⌜ r ≡ isWithin n set ⌝ }
 {
+    if n == 0 {
+        return set == 0;
+    }
+    if 64 < n {
+        return true;
+    }
     set <= full(n)
 }
 

@@ -46,7 +46,7 @@ type Entry = (u64, u32);
 
 /// One of the case's states alone: the first from anywhere on, and from the lowest again after the
 /// highest. The case has some.
-fn one_of(random: &mut Random, case: u64) -> u64 {
+pub(super) fn one_of(random: &mut Random, case: u64) -> u64 {
     let from = random.below(64) as u32;
     let turned = case.rotate_right(from);
     1_u64.rotate_left(from + turned.trailing_zeros())

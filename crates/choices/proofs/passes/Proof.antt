@@ -50,8 +50,8 @@ settled-requires c κs = search needs
 returns-4 : tie.Need-returns-4 Inv-loop μ-loop
 returns-4 c = search (pass-unsettled, needs)
 
-add-t15 : tie.Need-add-t15 Inv-loop μ-loop
-add-t15 c = search needs
+add-t16 : tie.Need-add-t16 Inv-loop μ-loop
+add-t16 c = search needs
 
 loop-less : tie.Need-loop-less Inv-loop μ-loop
 loop-less c = search needs
@@ -78,7 +78,7 @@ passes-spec =
     backward-requires
     settled-requires
     returns-4
-    add-t15
+    add-t16
     loop-less
     loop-again
     returns-5)

@@ -52,8 +52,8 @@ is-there-requires c κs = search needs
 returns-2 : tie.Need-returns-2 Inv-loop μ-loop
 returns-2 c = search (rise-unblocked, needs)
 
-add-t21 : tie.Need-add-t21 Inv-loop μ-loop
-add-t21 c = search needs
+add-t22 : tie.Need-add-t22 Inv-loop μ-loop
+add-t22 c = search needs
 
 loop-less : tie.Need-loop-less Inv-loop μ-loop
 loop-less c = search needs
@@ -81,7 +81,7 @@ rises-spec =
     why-requires
     is-there-requires
     returns-2
-    add-t21
+    add-t22
     loop-less
     loop-again
     returns-3)

@@ -1,4 +1,4 @@
-use Rattle.automata.proofs.BackwardSets.{row-tested}
+use Rattle.automata.proofs.RowWalks.{row-tested, row-inside, state-fits}
 use borrow.Author.Needs.{needs}
 use Rattle.automata.proofs.backward.with_row.Statement.{statement}
 use Rattle.automata.proofs.backward.with_row.Tie as tie
@@ -6,22 +6,22 @@ use Rattle.automata.proofs.backward.with_row.Reads as reads
 use Rattle.automata.proofs.backward.with_row.Lts as lts
 use Rattle.automata.proofs.bytes.read8.Reads as read8-reads
 use Rattle.masks.proofs.insert_if.Reads as insert-if-reads
-use Rattle.masks.proofs.subset.Reads as subset-reads
+use Rattle.masks.proofs.adds_none.Reads as adds-none-reads
 
 add-read8 : tie.Need-add-read8
 add-read8 c = search needs
 
 read8-requires : tie.Need-read8-requires
-read8-requires c κs = search needs
+read8-requires c κs = search (row-inside, needs)
 
-subset-requires : tie.Need-subset-requires
-subset-requires c κs = search needs
+adds-none-requires : tie.Need-adds-none-requires
+adds-none-requires c κs = search needs
 
 shared-slice-read-t9 : tie.Need-shared-slice-read-t9
-shared-slice-read-t9 c = search needs
+shared-slice-read-t9 c = search (row-inside, needs)
 
 insert-if-requires : tie.Need-insert-if-requires
-insert-if-requires c κs = search needs
+insert-if-requires c κs = search (state-fits, needs)
 
 returns : tie.Need-returns
 returns c = search (row-tested, needs)
@@ -32,7 +32,7 @@ with-row-spec =
     (tie.spec
     add-read8
     read8-requires
-    subset-requires
+    adds-none-requires
     shared-slice-read-t9
     insert-if-requires
     returns)

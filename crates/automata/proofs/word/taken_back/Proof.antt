@@ -18,8 +18,8 @@ loop-holds c = search (taken-none, needs)
 sub-i : tie.Need-sub-i Inv-loop μ-loop
 sub-i c = search needs
 
-shared-slice-read-t8 : tie.Need-shared-slice-read-t8 Inv-loop μ-loop
-shared-slice-read-t8 c = search needs
+shared-slice-read-t9 : tie.Need-shared-slice-read-t9 Inv-loop μ-loop
+shared-slice-read-t9 c = search needs
 
 backward-requires : tie.Need-backward-requires Inv-loop μ-loop
 backward-requires c κs = search (symbol-known, needs)
@@ -41,7 +41,7 @@ taken-back-spec =
     μ-loop
     loop-holds
     sub-i
-    shared-slice-read-t8
+    shared-slice-read-t9
     backward-requires
     loop-less
     loop-again

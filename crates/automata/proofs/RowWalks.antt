@@ -1,0 +1,250 @@
+-- The walk over a symbol's rows: what one row or some rows add to the set, what the walk has found on its way, and that it ends with the backward set and the
+-- number of rows walked. Assumes nothing.
+use Prim.Native.Nat.{ℕ, zero, suc, _+_, _-_, _*_, _/_, _≤_, _<_}
+use mathlib.Core.Path.{_≡_, refl, sym, ap, subst, _∙_}
+use mathlib.Core.Bool.{Bool}
+use mathlib.Core.List.{List, [], _∷_, _++_}
+use mathlib.Core.Logic.{_⊎_, inl, inr}
+use native.Mathlib.Omega.{arith}
+use lib.Dec.{T}
+use lib.ListN.{length, take}
+use Rattle.lists.specs.Tests.{choose}
+use Rattle.lists.specs.Lists.{_∈_, here}
+use Rattle.lists.proofs.Lists.{in-left, in-right}
+use Rattle.masks.specs.Sets.{subset, union, single, full}
+use Rattle.masks.proofs.Laws.{subset-members, empty-members, full-members}
+use Rattle.automata.specs.Bytes.{byteAt, little8}
+use Rattle.automata.specs.Image.{Row, Valid, statesOf, symbolsOf, offsetOf, sizeOf, rowAt, rowsFrom, rowsOf}
+use Rattle.automata.specs.Automaton.{withRow, withRows, backward, bringAllIn, rowsWalked}
+use Rattle.automata.specs.Walk.{Walks, RowsStand, rowsBetween, Walking}
+use Rattle.automata.proofs.ValidImage.{valid-kept, span-in, span-nines, pair-in, rows-of-symbol, valid-rows}
+use Rattle.automata.proofs.BackwardSets.{not-in-before, walked-is, all-in-full, all-in-stays}
+
+-- rows from a place on: how many, some of them and those behind, and the first of them
+rows-count : (image : List ℕ) (count at : ℕ) → length (rowsFrom image count at) ≡ count
+unfolding rowsFrom
+rows-count image zero at = refl
+rows-count image (suc count) at = ap suc (rows-count image count (at + 9))
+
+rows-joined : (image : List ℕ) (some more at : ℕ) → rowsFrom image (some + more) at ≡ rowsFrom image some at ++ rowsFrom image more (at + 9 * some)
+unfolding rowsFrom
+rows-joined image zero more at =
+    let e : at + 9 * 0 ≡ at = omega arith in
+    let f : 0 + more ≡ more = omega arith in
+    rw (e, f) refl
+rows-joined image (suc some) more at =
+    let e : at + 9 * suc some ≡ at + 9 + 9 * some = omega arith in
+    let f : suc some + more ≡ suc (some + more) = omega arith in
+    rw (e, f) (ap (λ (rest : List Row). rowAt image at ∷ rest) (rows-joined image some more (at + 9)))
+
+rows-taken : (image : List ℕ) (some count at : ℕ) → some ≤ count → take some (rowsFrom image count at) ≡ rowsFrom image some at
+unfolding rowsFrom
+rows-taken image zero count at l = refl
+rows-taken image (suc some) zero at l = absurd (omega arith)
+rows-taken image (suc some) (suc count) at l = ap (λ (rest : List Row). rowAt image at ∷ rest) (rows-taken image some count (at + 9) (omega arith))
+
+with-rows-joined : (X set : ℕ) (rows more : List Row) → withRows X set (rows ++ more) ≡ withRows X (withRows X set rows) more
+unfolding withRows
+with-rows-joined X set [] more = refl
+with-rows-joined X set (row ∷ rows) more = with-rows-joined X (withRow X set row) rows more
+
+-- what one row adds, by the test of its case, and what some rows add and then those behind them
+module _ (image : List ℕ) (X set at : ℕ) where
+  pub row-tested : (case result : ℕ) (b : Bool) → case ≡ little8 image (at + 1) → b ≡ subset case X
+      → result ≡ choose b (union set (single (byteAt image at))) set → result ≡ withRows X set (rowsFrom image 1 at)
+  unfolding withRow withRows rowsFrom
+  row-tested case result b c e r =
+      r ∙ ap (λ (x : Bool). choose x (union set (single (byteAt image at))) set) (e ∙ ap (λ (x : ℕ). subset x X) c)
+
+  with-more-rows : (some more middle result : ℕ) → middle ≡ withRows X set (rowsFrom image some at)
+      → result ≡ withRows X middle (rowsFrom image more (at + 9 * some)) → result ≡ withRows X set (rowsFrom image (some + more) at)
+  with-more-rows some more middle result m r =
+      r
+      ∙ ap (λ (x : ℕ). withRows X x (rowsFrom image more (at + 9 * some))) m
+      ∙ sym (with-rows-joined X set (rowsFrom image some at) (rowsFrom image more (at + 9 * some)))
+      ∙ ap (withRows X set) (sym (rows-joined image some more at))
+
+  pub two-rows : (middle result : ℕ) → middle ≡ withRows X set (rowsFrom image 1 at) → result ≡ withRows X middle (rowsFrom image 1 (at + 9))
+      → result ≡ withRows X set (rowsFrom image 2 at)
+  two-rows = with-more-rows 1 1
+
+  pub four-rows : (middle result : ℕ) → middle ≡ withRows X set (rowsFrom image 2 at) → result ≡ withRows X middle (rowsFrom image 2 (at + 18))
+      → result ≡ withRows X set (rowsFrom image 4 at)
+  four-rows = with-more-rows 2 2
+
+-- a row that stands there can be read
+pub row-inside : {image : List ℕ} {at : ℕ} → RowsStand image 1 at → at + 9 ≤ length image
+row-inside stand = stand .inside
+
+pub state-fits : {image : List ℕ} {at : ℕ} → RowsStand image 1 at → byteAt image at < 64
+unfolding rowsFrom
+state-fits {image} {at} stand = stand .states (rowAt image at) (here refl)
+
+-- of rows that stand there, so many behind others do
+pub part-stands : {image : List ℕ} {count at place : ℕ} (before part : ℕ) → RowsStand image count at → before + part ≤ count → place ≡ at + 9 * before
+    → RowsStand image part place
+part-stands {image} {count} {at} before part stand l e =
+    subst (RowsStand image part) (sym e)
+    (record {
+      inside = omega (arith, stand .inside);
+      states = λ row m. stand .states row (subst (λ (rows : List Row). row ∈ rows) (sym split) (in-right (rowsFrom image before at) (in-left _ m)));
+    })
+  where
+    behind : ℕ
+    behind = count - (before + part)
+
+    split : rowsFrom image count at
+        ≡ rowsFrom image before at ++ (rowsFrom image part (at + 9 * before) ++ rowsFrom image behind (at + 9 * before + 9 * part))
+    split =
+        ap (λ (n : ℕ). rowsFrom image n at) (omega arith)
+        ∙ rows-joined image before (part + behind) at
+        ∙ ap (λ (rest : List Row). rowsFrom image before at ++ rest) (rows-joined image part behind (at + 9 * before))
+
+-- the walk has come to the row at `at`
+module _ {image : List ℕ} {start end X at set : ℕ} (walk : Walking image start end X at set) where
+  -- the rows ahead are of the span
+  ahead : (count : ℕ) → at + 9 * count ≤ end → walk .rows + count ≤ (end - start) / 9
+  ahead count l = omega (arith, walk .place)
+
+  span-stands : RowsStand image ((end - start) / 9) start
+  span-stands =
+      record {
+        inside = omega (arith, walk .span .ordered, walk .span .inside);
+        states = λ row m. let below = walk .span .states row m in omega (arith, valid-kept image (walk .span .valid) .states-fit);
+      }
+
+  stand : (count : ℕ) → at + 9 * count ≤ end → RowsStand image count at
+  stand count l = part-stands (walk .rows) count span-stands (ahead count l) (walk .place)
+
+  one-ahead : at < end → at + 9 * 1 ≤ end
+  one-ahead l = omega (arith, walk .place, walk .span .nines)
+
+  four-ahead : 36 ≤ end - at → at + 9 * 4 ≤ end
+  four-ahead l = omega (arith, walk .ordered)
+
+  pub one-stands : at < end → RowsStand image 1 at
+  one-stands l = stand 1 (one-ahead l)
+
+  pub four-stand : 36 ≤ end - at → RowsStand image 4 at
+  four-stand l = stand 4 (four-ahead l)
+
+  -- the number walked: at most one more than have not brought all states in, if that one brings them in or is the last
+  is-walked : (result count : ℕ) → result ≡ count → count ≤ walk .rows + 1 → count ≤ (end - start) / 9
+      → T (bringAllIn (statesOf image) (rowsBetween image start end) X count) ⊎ (count ≡ (end - start) / 9)
+      → result ≡ rowsWalked (statesOf image) (rowsBetween image start end) X
+  is-walked result count r near few h =
+      r
+      ∙ walked-is (statesOf image) (rowsBetween image start end) X count
+      (record {
+        within = rw long few;
+        not-before = λ i l. not-in-before (statesOf image) (rowsBetween image start end) X (omega arith) (walk .not-all);
+        holds-or = rw long h;
+      })
+    where
+      long : length (rowsBetween image start end) ≡ (end - start) / 9
+      long = rows-count image ((end - start) / 9) start
+
+  -- what `count` rows more give, and whether they bring all states in
+  module _ (count more all : ℕ) (bound : at + 9 * count ≤ end) (e : more ≡ withRows X set (rowsFrom image count at)) (ea : all ≡ full (statesOf image)) where
+    added : more ≡ backward (take (walk .rows + count) (rowsBetween image start end)) X
+    unfolding backward
+    added =
+        with-more-rows image X 0 start (walk .rows) count set more
+        (walk .so-far ∙ ap (withRows X 0) (rows-taken image (walk .rows) _ start (omega (arith, ahead count bound))))
+        (e ∙ ap (λ (place : ℕ). withRows X set (rowsFrom image count place)) (walk .place))
+        ∙ ap (withRows X 0) (sym (rows-taken image (walk .rows + count) _ start (ahead count bound)))
+
+    goes : (more ≡ all → ⊥) → Walking image start end X (at + 9 * count) more
+    goes f =
+        record {
+          span = walk .span;
+          rows = walk .rows + count;
+          place = omega (arith, walk .place);
+          ordered = bound;
+          so-far = added;
+          not-all = λ t. f (added ∙ all-in-full (statesOf image) (rowsBetween image start end) X (walk .span .states) _ .0 t ∙ sym ea);
+        }
+
+    fills : more ≡ all → T (bringAllIn (statesOf image) (rowsBetween image start end) X (walk .rows + count))
+    fills f = all-in-full (statesOf image) (rowsBetween image start end) X (walk .span .states) _ .1 (sym added ∙ f ∙ ea)
+
+  -- four rows more that do not bring all states in
+  pub four-go : (more all : ℕ) → 36 ≤ end - at → more ≡ withRows X set (rowsFrom image 4 at) → all ≡ full (statesOf image) → (more ≡ all → ⊥)
+      → Walking image start end X (at + 36) more
+  four-go more all l e ea f = goes 4 more all (four-ahead l) e ea f
+
+  -- one row more
+  module _ (more all : ℕ) (l : at < end) (e : more ≡ withRows X set (rowsFrom image 1 at)) (ea : all ≡ full (statesOf image)) where
+    pub one-goes : (more ≡ all → ⊥) → Walking image start end X (at + 9) more
+    one-goes f = goes 1 more all (one-ahead l) e ea f
+
+    one-answers : more ≡ all → Walks (statesOf image) (rowsBetween image start end) X more ((at + 9 - start) / 9)
+    one-answers f =
+        let all-in = fills 1 more all (one-ahead l) e ea f in
+        record {
+          states = added 1 more all (one-ahead l) e ea ∙ all-in-stays (statesOf image) (rowsBetween image start end) X (walk .span .states) _ all-in;
+          counted = is-walked ((at + 9 - start) / 9) (walk .rows + 1) (omega (arith, walk .place)) (omega arith) (ahead 1 (one-ahead l)) (inl all-in);
+        }
+
+  -- no row more
+  none-answers : end ≤ at → Walks (statesOf image) (rowsBetween image start end) X set ((at - start) / 9)
+  none-answers l =
+      record {
+        states = walk .so-far ∙ ap (λ (rows : List Row). backward rows X) whole;
+        counted = is-walked ((at - start) / 9) (walk .rows) (omega (arith, walk .place)) (omega arith) (omega (arith, every)) (inr every);
+      }
+    where
+      every : walk .rows ≡ (end - start) / 9
+      every = omega (arith, walk .place, walk .ordered)
+
+      whole : take (walk .rows) (rowsBetween image start end) ≡ rowsBetween image start end
+      whole = ap (λ (rows : ℕ). take rows (rowsBetween image start end)) every ∙ rows-taken image _ _ start (omega arith)
+
+-- the number of states of a valid image
+module _ (image : List ℕ) (valid : Valid image) where
+  pub states-readable : 0 < length image
+  states-readable = omega (arith, valid-kept image valid .long)
+
+  pub some-state : 1 ≤ statesOf image
+  some-state = valid-kept image valid .some-state
+
+  pub states-fit : statesOf image ≤ 64
+  states-fit = valid-kept image valid .states-fit
+
+-- the walk over the rows of a symbol of a valid image
+module _ (image : List ℕ) (s : ℕ) (asked : Valid image × (s < symbolsOf image)) where
+  pub pair-readable : 28 + 8 * s ≤ length image
+  pair-readable = pair-in image (asked .0) s (asked .1)
+
+  module _ (start size : ℕ) (eo : start ≡ offsetOf image s) (ez : size ≡ sizeOf image s) where
+    span-rows : rowsBetween image start (start + size) ≡ rowsOf image s
+    span-rows = let count : (start + size - start) / 9 ≡ sizeOf image s / 9 = omega (arith, ez) in rw (rows-of-symbol image s (asked .1), count, eo)
+
+    pub walk-starts : (X : ℕ) → Walking image start (start + size) X start 0
+    unfolding bringAllIn backward withRows
+    walk-starts X =
+        record {
+          span = record {
+            valid = asked .0;
+            ordered = omega arith;
+            inside = omega (arith, span-in image (asked .0) s (asked .1));
+            nines = omega (arith, span-nines image (asked .0) s (asked .1));
+            states = λ row m. valid-rows image (asked .0) s (asked .1) row (rw span-rows at m) .state-below;
+          };
+          rows = 0;
+          place = omega arith;
+          ordered = omega arith;
+          so-far = refl;
+          not-all = λ t.
+              empty-members 0
+              (subset-members (full (statesOf image)) 0 t 0 (full-members (statesOf image) 0 .1 (valid-kept image (asked .0) .some-state)));
+        }
+
+    module _ {X at set : ℕ} (walk : Walking image start (start + size) X at set) where
+      -- the answers at a row that brings the last state in, and behind the last row
+      pub walk-filled : (more all : ℕ) → more ≡ all → at < start + size → more ≡ withRows X set (rowsFrom image 1 at) → all ≡ full (statesOf image)
+          → Walks (statesOf image) (rowsOf image s) X more ((at + 9 - start) / 9)
+      walk-filled more all f l e ea = subst (λ (rows : List Row). Walks (statesOf image) rows X more ((at + 9 - start) / 9)) span-rows (one-answers walk more all l e ea f)
+
+      pub walk-ended : start + size ≤ at → Walks (statesOf image) (rowsOf image s) X set ((at - start) / 9)
+      walk-ended l = subst (λ (rows : List Row). Walks (statesOf image) rows X set ((at - start) / 9)) span-rows (none-answers walk l)

@@ -1,0 +1,40 @@
+-- The walk over a symbol's rows: what it answers, and what its functions ask of one another. Assumes nothing: these are definitions.
+use Prim.Native.Nat.{ℕ, _+_, _-_, _*_, _/_, _%_, _≤_, _<_}
+use mathlib.Core.Path.{_≡_}
+use mathlib.Core.List.{List}
+use lib.Dec.{T}
+use lib.ListN.{length, take}
+use Rattle.lists.specs.Lists.{Each}
+use Rattle.automata.specs.Image.{Row, Valid, statesOf, rowsFrom}
+use Rattle.automata.specs.Automaton.{backward, bringAllIn, rowsWalked}
+
+-- the answer of a walk over the rows of an automaton with n states: the backward set of X, and how many of the rows were walked
+pub record Walks (n : ℕ) (rows : List Row) (X set walked : ℕ) : Type 0 where
+  pub states : set ≡ backward rows X
+  pub counted : walked ≡ rowsWalked n rows X
+
+-- so many rows stand in the image from a place on, and the state of each fits a mask
+pub record RowsStand (image : List ℕ) (count at : ℕ) : Type 0 where
+  pub inside : at + 9 * count ≤ length image
+  pub states : Each (λ row. row .state < 64) (rowsFrom image count at)
+
+-- the rows from a place to an end
+abbrev pub rowsBetween : List ℕ → ℕ → ℕ → List Row
+rowsBetween image start end = rowsFrom image ((end - start) / 9) start
+
+-- whole rows of a valid image stand there, and have states of the automaton
+pub record Span (image : List ℕ) (start end : ℕ) : Type 0 where
+  pub valid : Valid image
+  pub ordered : start ≤ end
+  pub inside : end ≤ length image
+  pub nines : (end - start) % 9 ≡ 0
+  pub states : Each (λ row. row .state < statesOf image) (rowsBetween image start end)
+
+-- the walk over these rows for the backward set of X has come to the row at `at`: the rows before it gave the set, and have not brought all states in
+pub record Walking (image : List ℕ) (start end X at set : ℕ) : Type 0 where
+  pub span : Span image start end
+  pub rows : ℕ
+  pub place : at ≡ start + 9 * rows
+  pub ordered : at ≤ end
+  pub so-far : set ≡ backward (take rows (rowsBetween image start end)) X
+  pub not-all : T (bringAllIn (statesOf image) (rowsBetween image start end) X rows) → ⊥

@@ -1,0 +1,2 @@
+-- Laws of what the tests are given.
+pub mod Walks
