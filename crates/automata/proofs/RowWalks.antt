@@ -8,6 +8,7 @@ use mathlib.Core.Logic.{_⊎_, inl, inr}
 use native.Mathlib.Omega.{arith}
 use lib.Dec.{T}
 use lib.ListN.{length, take}
+use lib.Seq.{take-at}
 use Rattle.lists.specs.Tests.{choose}
 use Rattle.lists.specs.Lists.{_∈_, here}
 use Rattle.lists.proofs.Lists.{in-left, in-right}
@@ -38,10 +39,11 @@ rows-joined image (suc some) more at =
     rw (e, f) (ap (λ (rest : List Row). rowAt image at ∷ rest) (rows-joined image some more (at + 9)))
 
 rows-taken : (image : List ℕ) (some count at : ℕ) → some ≤ count → take some (rowsFrom image count at) ≡ rowsFrom image some at
-unfolding rowsFrom
-rows-taken image zero count at l = refl
-rows-taken image (suc some) zero at l = absurd (omega arith)
-rows-taken image (suc some) (suc count) at l = ap (λ (rest : List Row). rowAt image at ∷ rest) (rows-taken image some count (at + 9) (omega arith))
+rows-taken image some count at l =
+    let parts : count ≡ some + (count - some) = omega arith in
+    ap (λ (n : ℕ). take some (rowsFrom image n at)) parts
+    ∙ ap (take some) (rows-joined image some (count - some) at)
+    ∙ take-at (rowsFrom image some at) _ some (rows-count image some at)
 
 with-rows-joined : (X set : ℕ) (rows more : List Row) → withRows X set (rows ++ more) ≡ withRows X (withRows X set rows) more
 unfolding withRows
@@ -72,10 +74,7 @@ module _ (image : List ℕ) (X set at : ℕ) where
       → result ≡ withRows X set (rowsFrom image 4 at)
   four-rows = with-more-rows 2 2
 
--- a row that stands there can be read
-pub row-inside : {image : List ℕ} {at : ℕ} → RowsStand image 1 at → at + 9 ≤ length image
-row-inside stand = stand .inside
-
+-- the state of a row that stands there fits a mask
 pub state-fits : {image : List ℕ} {at : ℕ} → RowsStand image 1 at → byteAt image at < 64
 unfolding rowsFrom
 state-fits {image} {at} stand = stand .states (rowAt image at) (here refl)
@@ -128,7 +127,7 @@ module _ {image : List ℕ} {start end X at set : ℕ} (walk : Walking image sta
   pub four-stand : 36 ≤ end - at → RowsStand image 4 at
   four-stand l = stand 4 (four-ahead l)
 
-  -- the number walked: at most one more than have not brought all states in, if that one brings them in or is the last
+  -- a number of rows, at most one more than so far, is the number walked if it brings all states in or is that of all rows
   is-walked : (result count : ℕ) → result ≡ count → count ≤ walk .rows + 1 → count ≤ (end - start) / 9
       → T (bringAllIn (statesOf image) (rowsBetween image start end) X count) ⊎ (count ≡ (end - start) / 9)
       → result ≡ rowsWalked (statesOf image) (rowsBetween image start end) X
@@ -199,17 +198,6 @@ module _ {image : List ℕ} {start end X at set : ℕ} (walk : Walking image sta
 
       whole : take (walk .rows) (rowsBetween image start end) ≡ rowsBetween image start end
       whole = ap (λ (rows : ℕ). take rows (rowsBetween image start end)) every ∙ rows-taken image _ _ start (omega arith)
-
--- the number of states of a valid image
-module _ (image : List ℕ) (valid : Valid image) where
-  pub states-readable : 0 < length image
-  states-readable = omega (arith, valid-kept image valid .long)
-
-  pub some-state : 1 ≤ statesOf image
-  some-state = valid-kept image valid .some-state
-
-  pub states-fit : statesOf image ≤ 64
-  states-fit = valid-kept image valid .states-fit
 
 -- the walk over the rows of a symbol of a valid image
 module _ (image : List ℕ) (s : ℕ) (asked : Valid image × (s < symbolsOf image)) where

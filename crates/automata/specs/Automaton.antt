@@ -1,4 +1,4 @@
--- The automaton of 01, its backward sets, and when two images hold one automaton. Assumes nothing: these are definitions.
+-- The automaton of 01, its backward sets and the rows walked for one, and when two images hold one automaton. Assumes nothing: these are definitions.
 use Prim.Native.Nat.{ℕ, _<_}
 use mathlib.Core.Path.{_≡_}
 use mathlib.Core.Bool.{Bool}

@@ -1,7 +1,7 @@
 use Prim.Native.Nat.{_-_}
 use Rattle.automata.specs.Walk.{Walking}
-use Rattle.automata.proofs.RowWalks.{pair-readable, states-readable, some-state, states-fit, walk-starts, one-stands, one-goes}
-use Rattle.automata.proofs.RowWalks.{walk-filled, walk-ended}
+use Rattle.automata.proofs.ValidImage.{valid-kept}
+use Rattle.automata.proofs.RowWalks.{pair-readable, walk-starts, one-stands, one-goes, walk-filled, walk-ended}
 use borrow.Author.Needs.{needs}
 use Rattle.automata.proofs.backward.backward.Statement.{statement}
 use Rattle.automata.proofs.backward.backward.Tie as tie
@@ -29,10 +29,10 @@ add-end : tie.Need-add-end Inv-loop μ-loop
 add-end c = search needs
 
 shared-slice-read-full : tie.Need-shared-slice-read-full Inv-loop μ-loop
-shared-slice-read-full c = search (states-readable, needs)
+shared-slice-read-full c = search (valid-kept _ (c .before .before .before .before .pre .0), needs)
 
 full-requires : tie.Need-full-requires Inv-loop μ-loop
-full-requires c κs = search (some-state, states-fit, needs)
+full-requires c κs = search (valid-kept _ (c .before .before .before .before .pre .0), needs)
 
 by-fours-requires : tie.Need-by-fours-requires Inv-loop μ-loop
 by-fours-requires c κs = search (walk-starts, needs)

@@ -1,4 +1,4 @@
-use Rattle.automata.proofs.RowWalks.{row-tested, row-inside, state-fits}
+use Rattle.automata.proofs.RowWalks.{row-tested, state-fits}
 use borrow.Author.Needs.{needs}
 use Rattle.automata.proofs.backward.with_row.Statement.{statement}
 use Rattle.automata.proofs.backward.with_row.Tie as tie
@@ -12,13 +12,13 @@ add-read8 : tie.Need-add-read8
 add-read8 c = search needs
 
 read8-requires : tie.Need-read8-requires
-read8-requires c κs = search (row-inside, needs)
+read8-requires c κs = search needs
 
 adds-none-requires : tie.Need-adds-none-requires
 adds-none-requires c κs = search needs
 
 shared-slice-read-t9 : tie.Need-shared-slice-read-t9
-shared-slice-read-t9 c = search (row-inside, needs)
+shared-slice-read-t9 c = search needs
 
 insert-if-requires : tie.Need-insert-if-requires
 insert-if-requires c κs = search (state-fits, needs)
