@@ -5,11 +5,13 @@
    Every input is answered. No function keeps what it is lent, and none reads
    or writes outside it, if the caller sees to three things:
    - A pointer is good for the length beside it, which counts elements. It may
-     be null where that length is 0. head, counts and found are never null.
-   - Tables are aligned as their type, head, counts and found too.
-   - Tables must not overlap: what a function may write (head, masks, levels,
-     entered, cases, symbols, counts, found; afa_why writes found alone) shares
-     no byte with anything else that it is lent in the same call. */
+     be null where that length is 0. head, length, counts and found are never
+     null.
+   - Tables are aligned as their type, head, length, counts and found too.
+   - Tables must not overlap: what a function may write (head, room, length,
+     masks, levels, entered, cases, symbols, counts, found; afa_why writes found
+     alone) shares no byte with anything else that it is lent in the same call.
+   afa_print_run takes some 520 KB of stack, the others little. */
 #ifndef AFA_H
 #define AFA_H
 
@@ -29,6 +31,18 @@ uint64_t afa_read(const uint8_t *image, size_t image_len, uint64_t head[5]);
    above. */
 uint64_t afa_accepts(const uint8_t *image, size_t image_len,
                      const uint8_t *word, size_t word_len);
+
+/* Prints an accepting run over a word into room, from its first place on: a
+   line with the initial case, then for each event one with the symbol and the
+   case reached, in decimal; each state picks its first row, in the image's
+   order, that leaves the rest of the word accepted. 1, and length has the
+   number of bytes written; the bytes behind them stay. On any other number
+   nothing is written and length has 0: the number under which the image is
+   refused (20 to 27), 32 if a symbol is k or above, 0 if the word is not
+   accepted, 35 if the room is too short. A line has at most 24 bytes. */
+uint64_t afa_print_run(const uint8_t *image, size_t image_len,
+                       const uint8_t *word, size_t word_len,
+                       uint8_t *room, size_t room_len, uint64_t length[1]);
 
 /* Decides whether any word is accepted, in two rooms that the caller lends:
    masks, levels and entered for blockers, cases and symbols for pending cases

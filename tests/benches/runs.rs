@@ -1,13 +1,15 @@
-//! `afa_run` and `afa_accepts` against the machine and the word test written in Rust, as a table in
-//! Markdown: `cargo bench`, after the library was built as for the tests.
+//! `afa_run`, `afa_accepts` and `afa_print_run` against the machine, the word test and the print written
+//! in Rust, as a table in Markdown: `cargo bench`, after the library was built as for the tests.
 //!
 //! Both sides go in one process and in turn, on the same image. Runs are lent rooms of 1,024 places
-//! that are cleared before each, and no hints; clearing and comparing are not timed. Times are the
-//! processor's for this thread, so that what else the machine does counts little. The machine here has
-//! no table of when blockers entered. The numbers and all other tables are compared after each turn,
-//! and a difference ends the program with an error.
+//! that are cleared before each, and no hints; prints are lent a room of just their length, cleared too;
+//! clearing and comparing are not timed. Times are the processor's for this thread, so that what else
+//! the machine does counts little. The machine here has no table of when blockers entered. The numbers,
+//! all other tables and the prints are compared after each turn, and a difference ends the program with
+//! an error.
 
 use afa_tests::afa;
+use afa_tests::generate::prints::{accept, fill_up, mixing};
 use afa_tests::generate::runs::run_model_of;
 use afa_tests::image::{all_states, rings, Model, Row};
 use afa_tests::machine;
@@ -34,6 +36,10 @@ const CLOCK_THREAD_CPUTIME_ID: c_int = 3;
 const PLACES: usize = 1024;
 const WORD_LENGTH: usize = 10_000;
 
+/// Of words over the rings of 2, 3 and 5 states that are printed: 29 and a multiple of 30, by which they
+/// are accepted. The library keeps 65,536 backward sets at a time, so the last goes another way.
+const PRINTED: [usize; 3] = [29 + 30 * 21, 29 + 30 * 2_183, 29 + 30 * 21_844];
+
 /// A round has one turn of either side or more, so that it lasts at least so long.
 const ROUND: Duration = Duration::from_millis(40);
 const ROUNDS: usize = 11;
@@ -47,21 +53,51 @@ struct Subject {
 enum Asked {
     Run { allowance: u64 },
     Word(Vec<u8>),
+    Print(Vec<u8>),
+}
+
+/// What either side works in.
+struct Lent {
+    tables: Tables,
+    /// For a print.
+    room: Vec<u8>,
 }
 
 fn main() -> ExitCode {
     println!("| model | answer | library | Rust | library / Rust: median (least to most) |");
     println!("|---|---|---|---|---|");
+    let mut print_times = Vec::new();
     for subject in subjects() {
-        if let Err(difference) = measure(&subject) {
-            eprintln!("{}: {difference}\n{}", subject.name, subject.model);
-            return ExitCode::FAILURE;
+        match measure(&subject) {
+            Ok(library_time) => {
+                if let Asked::Print(_) = subject.asked {
+                    print_times.push(library_time);
+                }
+            }
+            Err(difference) => {
+                eprintln!("{}: {difference}\n{}", subject.name, subject.model);
+                return ExitCode::FAILURE;
+            }
         }
     }
     println!(
-        "\n{ROUNDS} rounds each; times are those of one run or word, the median of the rounds."
+        "\n{ROUNDS} rounds each; times are those of one run, word or print, the median of the rounds."
+    );
+    println!(
+        "Of the library's prints over rings, one of {} events takes {:.1} times one of {}.",
+        grouped(PRINTED[1]),
+        print_times[1].as_secs_f64() / print_times[0].as_secs_f64(),
+        grouped(PRINTED[0])
     );
     ExitCode::SUCCESS
+}
+
+/// The number with commas.
+fn grouped(number: usize) -> String {
+    match number {
+        0..1_000 => number.to_string(),
+        _ => format!("{},{:03}", grouped(number / 1_000), number % 1_000),
+    }
 }
 
 fn subjects() -> Vec<Subject> {
@@ -72,7 +108,8 @@ fn subjects() -> Vec<Subject> {
         asked: Asked::Run { allowance: 1 << 22 },
     });
     let runs = rings.into_iter().chain(random_subjects());
-    runs.chain(word_subjects()).collect()
+    let words = runs.chain(word_subjects());
+    words.chain(print_subjects()).collect()
 }
 
 /// Of the models of 24 to 64 states and 1 to 8 symbols that the seeds 0, 1, 2, .. give, the first 20
@@ -137,41 +174,83 @@ fn word_subjects() -> Vec<Subject> {
     subjects.into()
 }
 
-/// The library's answer.
-fn ask_library(image: &[u8], asked: &Asked, tables: &mut Tables) -> Answer {
+/// Words over rings, and one over as many states and rows as there can be, all rows being those of one
+/// symbol: which of them fit depends on all that remains of the word, and most never do.
+fn print_subjects() -> Vec<Subject> {
+    let rings = PRINTED.map(|length| Subject {
+        name: format!("print, rings [2, 3, 5], {} events", grouped(length)),
+        model: rings(&[2, 3, 5]),
+        asked: Asked::Print(vec![0; length]),
+    });
+    let mut random = Random::seeded(0);
+    let mut model = mixing(&mut random, 31, 1);
+    fill_up(&mut random, &mut model, 4_096);
+    let word = vec![0; 4_096];
+    accept(&mut random, &mut model, &word);
+    let largest = Subject {
+        name: "print, n 64, 4,096 rows a symbol, 4,096 events".into(),
+        model,
+        asked: Asked::Print(word),
+    };
+    rings.into_iter().chain([largest]).collect()
+}
+
+/// The library's answer. That of a print has the length where that of a run has the steps.
+fn ask_library(image: &[u8], asked: &Asked, lent: &mut Lent) -> Answer {
     match asked {
         Asked::Run { allowance } => {
             let mut counts = [0; 4];
-            let number = afa::run::run(image, tables.lend(), &[], *allowance, &mut counts);
+            let number = afa::run::run(image, lent.tables.lend(), &[], *allowance, &mut counts);
             let [steps, level, blockers, hints_accepted] = counts;
             Answer::of_numbers([number, steps, level, blockers, hints_accepted])
         }
         Asked::Word(word) => Answer::of_numbers([afa::accepts(image, word), 0, 0, 0, 0]),
+        Asked::Print(word) => {
+            let mut length = [0];
+            let number = afa::print::print_run(image, word, &mut lent.room, &mut length);
+            Answer::of_numbers([number, length[0], 0, 0, 0])
+        }
     }
 }
 
 /// The same in Rust.
-fn ask_rust(image: &[u8], asked: &Asked, tables: &mut Tables) -> Answer {
+fn ask_rust(image: &[u8], asked: &Asked, lent: &mut Lent) -> Answer {
     match asked {
         Asked::Run { allowance } => {
-            machine::run_without_entered(image, tables.lend(), &[], *allowance)
+            machine::run_without_entered(image, lent.tables.lend(), &[], *allowance)
         }
         Asked::Word(word) => Answer::of_numbers([machine::accepts(image, word), 0, 0, 0, 0]),
+        Asked::Print(word) => {
+            let (number, length) = machine::print::print_run(image, word, &mut lent.room);
+            Answer::of_numbers([number, length, 0, 0, 0])
+        }
     }
 }
 
-/// Prints the subject's line, or answers in what the two sides differ.
-fn measure(subject: &Subject) -> Result<(), String> {
+/// A print's room is as long as the print, which is made once with room enough for any to know that.
+fn lent_for(image: &[u8], asked: &Asked) -> Lent {
+    let mut room = Vec::new();
+    if let Asked::Print(word) = asked {
+        room.resize(21 + 24 * word.len(), 0);
+        let (_, length) = machine::print::print_run(image, word, &mut room);
+        room.truncate(length as usize);
+    }
+    let tables = Tables::cleared(PLACES, PLACES);
+    Lent { tables, room }
+}
+
+/// Prints the subject's line and answers the library's time, or in what the two sides differ.
+fn measure(subject: &Subject) -> Result<Duration, String> {
     let image = subject.model.image();
     let (image, asked) = (&image, &subject.asked);
-    let run_library = |tables: &mut Tables| ask_library(black_box(image), black_box(asked), tables);
-    let run_rust = |tables: &mut Tables| ask_rust(black_box(image), black_box(asked), tables);
-    let mut tables = [0, 1].map(|_| Tables::cleared(PLACES, PLACES));
-    let [library_tables, rust_tables] = &mut tables;
+    let run_library = |lent: &mut Lent| ask_library(black_box(image), black_box(asked), lent);
+    let run_rust = |lent: &mut Lent| ask_rust(black_box(image), black_box(asked), lent);
+    let mut both = [0, 1].map(|_| lent_for(image, asked));
+    let [library_lent, rust_lent] = &mut both;
 
     // The first turn of either side also tells how many make a round.
-    let (time, answer) = timed(rust_tables, run_rust);
-    timed(library_tables, run_library);
+    let (time, answer) = timed(rust_lent, run_rust);
+    timed(library_lent, run_library);
     let repeats = ROUND.as_nanos().div_ceil(2 * time.as_nanos().max(1)) as u32;
 
     let (mut library_times, mut rust_times, mut ratios) = (Vec::new(), Vec::new(), Vec::new());
@@ -180,17 +259,20 @@ fn measure(subject: &Subject) -> Result<(), String> {
         for repeat in 0..repeats {
             let (library, rust);
             if repeat % 2 == 0 {
-                library = timed(library_tables, run_library);
-                rust = timed(rust_tables, run_rust);
+                library = timed(library_lent, run_library);
+                rust = timed(rust_lent, run_rust);
             } else {
-                rust = timed(rust_tables, run_rust);
-                library = timed(library_tables, run_library);
+                rust = timed(rust_lent, run_rust);
+                library = timed(library_lent, run_library);
             }
             if library.1 != rust.1 {
                 return Err(format!("{:?} but in Rust {:?}", library.1, rust.1));
             }
-            if compared(library_tables) != compared(rust_tables) {
+            if compared(&library_lent.tables) != compared(&rust_lent.tables) {
                 return Err(format!("{:?} with other tables than in Rust", library.1));
+            }
+            if library_lent.room != rust_lent.room {
+                return Err(format!("{:?} with another print than in Rust", library.1));
             }
             library_time += library.0;
             rust_time += rust.0;
@@ -202,17 +284,18 @@ fn measure(subject: &Subject) -> Result<(), String> {
     library_times.sort();
     rust_times.sort();
     ratios.sort_by(f64::total_cmp);
+    let library_time = library_times[ROUNDS / 2];
     println!(
         "| {} | {} | {:.1?} | {:.1?} | {:.2} ({:.2} to {:.2}) |",
         subject.name,
         shown(asked, &answer),
-        library_times[ROUNDS / 2],
+        library_time,
         rust_times[ROUNDS / 2],
         ratios[ROUNDS / 2],
         ratios[0],
         ratios[ROUNDS - 1]
     );
-    Ok(())
+    Ok(library_time)
 }
 
 /// The tables that both sides have.
@@ -225,15 +308,16 @@ fn compared(tables: &Tables) -> (&[u64], &[u32], &[u64], &[u8]) {
     )
 }
 
-/// One turn in cleared tables.
-fn timed(tables: &mut Tables, run: impl Fn(&mut Tables) -> Answer) -> (Duration, Answer) {
-    tables.masks.fill(0);
-    tables.levels.fill(0);
-    tables.entered.fill(0);
-    tables.cases.fill(0);
-    tables.symbols.fill(0);
+/// One turn in cleared tables and room.
+fn timed(lent: &mut Lent, run: impl Fn(&mut Lent) -> Answer) -> (Duration, Answer) {
+    lent.tables.masks.fill(0);
+    lent.tables.levels.fill(0);
+    lent.tables.entered.fill(0);
+    lent.tables.cases.fill(0);
+    lent.tables.symbols.fill(0);
+    lent.room.fill(0);
     let start = processor_time();
-    let answer = black_box(run(black_box(tables)));
+    let answer = black_box(run(black_box(lent)));
     (processor_time() - start, answer)
 }
 
@@ -248,11 +332,12 @@ fn processor_time() -> Duration {
     Duration::from_secs(time.seconds) + Duration::from_nanos(time.nanoseconds)
 }
 
-/// The five numbers of a run, or whether the word is accepted.
+/// The five numbers of a run, whether the word is accepted, or that and the length of its print.
 fn shown(asked: &Asked, answer: &Answer) -> String {
     let number = answer.number;
     match asked {
         Asked::Word(_) => format!("{number}"),
+        Asked::Print(_) => format!("{number}, {} bytes", grouped(answer.steps as usize)),
         Asked::Run { .. } => format!(
             "{number} {} {} {} {}",
             answer.steps, answer.level, answer.blockers, answer.hints_accepted

@@ -84,6 +84,23 @@ impl Runs {
         Some(reached.iter().any(|case| case & !self.final_set == 0))
     }
 
+    /// Whether the cases are those of a run over the word: the first is one in which runs begin, each
+    /// steps to the next, and the last is final. Nothing if more than `cap` picks would have to be made.
+    pub fn is_run(&self, word: &[u8], cases: &[u64], cap: usize) -> Option<bool> {
+        let mut picks_left = cap;
+        let (Some(first), Some(last)) = (cases.first(), cases.last()) else {
+            return Some(false);
+        };
+        for (&symbol, pair) in word.iter().zip(cases.windows(2)) {
+            let choices = &self.choices[usize::from(symbol)];
+            if !union_reaches(choices, pair[0], 0, pair[1], &mut picks_left)? {
+                return Some(false);
+            }
+        }
+        let as_long = cases.len() == word.len() + 1;
+        Some(as_long && self.starts.contains(first) && last & !self.final_set == 0)
+    }
+
     /// The cases to which `case` steps: one for every way in which its states pick, equal ones once.
     /// The empty case has nobody to pick and steps to itself; a state without a row leaves no way.
     fn steps(&self, symbol: u8, case: u64, picks_left: &mut usize) -> Option<Vec<u64>> {
@@ -103,4 +120,29 @@ impl Runs {
         }
         Some(unions)
     }
+}
+
+/// Whether the states of `case` can pick so that the cases picked and `union` are `next` together. Their
+/// picks are tried in turn until one way is found.
+fn union_reaches(
+    choices: &[Vec<u64>],
+    case: u64,
+    union: u64,
+    next: u64,
+    picks_left: &mut usize,
+) -> Option<bool> {
+    if case == 0 {
+        return Some(union == next);
+    }
+    let others = case & (case - 1);
+    for &picked in &choices[case.trailing_zeros() as usize] {
+        // Who picks what lies outside does not get there.
+        if picked & !next == 0 {
+            *picks_left = picks_left.checked_sub(1)?;
+            if union_reaches(choices, others, union | picked, next, picks_left)? {
+                return Some(true);
+            }
+        }
+    }
+    Some(false)
 }

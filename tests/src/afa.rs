@@ -1,12 +1,13 @@
 //! The library's C functions, and the calls of them with every slice in guarded memory. Each call is
-//! made once with the slices at either edge, and both must answer alike. `afa_run`, `afa_why` and
-//! `afa_walk` stand in modules of their own.
+//! made once with the slices at either edge, and both must answer alike. `afa_run`, `afa_print_run`,
+//! `afa_why` and `afa_walk` stand in modules of their own.
 
 use crate::compare::hexadecimal;
 use crate::fault;
 use crate::guarded::{ReadOnly, Writable, EDGES};
 use std::slice;
 
+pub mod print;
 pub mod run;
 pub mod walk;
 pub mod why;

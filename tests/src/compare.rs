@@ -7,6 +7,7 @@ use crate::checks::{check, Head};
 use crate::image::Model;
 use std::fmt::Display;
 
+pub mod print;
 pub mod run;
 pub mod walk;
 pub mod why;

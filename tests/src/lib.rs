@@ -12,6 +12,7 @@ pub mod generate;
 pub mod guarded;
 pub mod image;
 pub mod machine;
+pub mod print;
 pub mod random;
 pub mod rearrange;
 pub mod search;

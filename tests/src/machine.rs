@@ -12,6 +12,7 @@ use entered::EnteredTable;
 mod automaton;
 mod blockers;
 mod entered;
+pub mod print;
 
 /// Of a room and of the hint table.
 pub const MOST_PLACES: usize = 65_536;

@@ -55,6 +55,10 @@ fn trespass() {
                     let lent = writable.lend(&[1_u64; 5], Edge::End).as_mut_ptr();
                     lent.add(5).cast::<u8>().write_volatile(0);
                 }
+                "write past the end of nothing" => {
+                    let nothing = writable.lend::<u8>(&[], Edge::End).as_mut_ptr();
+                    nothing.write_volatile(0);
+                }
                 "write before the start" => {
                     let lent = writable.lend(&[1_u64; 5], Edge::Start).as_mut_ptr();
                     lent.cast::<u8>().sub(1).write_volatile(0);
@@ -92,6 +96,7 @@ fn trespassing_is_deadly() {
         "write into what is read only",
         "read past the end of nothing",
         "write past the end",
+        "write past the end of nothing",
         "write before the start",
     ] {
         let output = start(kind);

@@ -2,6 +2,7 @@
 //! slice.
 
 use afa_tests::afa::interface::{afa_accepts, afa_read};
+use afa_tests::afa::print::interface::afa_print_run;
 use afa_tests::afa::run::interface::afa_run;
 use afa_tests::afa::walk::interface::afa_walk;
 use afa_tests::afa::why::interface::afa_why;
@@ -123,6 +124,47 @@ fn run() {
         [4, 4, 4, 4, 0],
     ] {
         expect(&c, lengths, &[], 100, [30, 0, 0, 0, 0]);
+    }
+}
+
+/// No image, the empty word, and no room, in which no print has a place.
+#[test]
+fn print_run() {
+    let [c, d] = [model_c(), model_d()].map(|model| model.image());
+    for (image, word, room_length, number, print) in [
+        (&[][..], &[][..], 0, 20, ""),
+        (&[], &[], 20, 20, ""),
+        (&[], &[0, 1], 0, 20, ""),
+        (&[], &[0, 1], 20, 20, ""),
+        (&c, &[], 0, 0, ""),
+        (&c, &[], 20, 0, ""),
+        (&c, &[2], 0, 32, ""),
+        (&c, &[1, 0], 0, 0, ""),
+        (&c, &[0, 1], 0, 35, ""),
+        (&d, &[], 0, 35, ""),
+        (&d, &[], 1, 35, ""),
+        (&d, &[], 2, 1, "0\n"),
+        (&d, &[], 20, 1, "0\n"),
+        (&d, &[0], 0, 35, ""),
+    ] {
+        let mut expected = vec![9; room_length];
+        expected[..print.len()].copy_from_slice(print.as_bytes());
+        let (mut room, mut length) = (vec![9; room_length], 7);
+        // SAFETY: what is null has no elements, the rest as many as it says, and one length is written.
+        let answered = unsafe {
+            afa_print_run(
+                pointer(image),
+                image.len(),
+                pointer(word),
+                word.len(),
+                pointer_mut(&mut room),
+                room_length,
+                &mut length,
+            )
+        };
+        let lent = format!("{} bytes, {word:?}, room of {room_length}", image.len());
+        assert_eq!((answered, length), (number, print.len() as u64), "{lent}");
+        assert_eq!(room, expected, "{lent}");
     }
 }
 

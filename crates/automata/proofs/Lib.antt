@@ -4,5 +4,7 @@ pub mod ValidImage
 pub mod Reading
 pub mod BackwardSets
 pub mod RowWalks
+pub mod PickedRuns
+pub mod PickWalks
 pub mod AcceptedWords
 pub mod WordTests

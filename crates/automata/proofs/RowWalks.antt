@@ -17,7 +17,7 @@ use Rattle.masks.proofs.Laws.{subset-members, empty-members, full-members}
 use Rattle.automata.specs.Bytes.{byteAt, little8}
 use Rattle.automata.specs.Image.{Row, Valid, statesOf, symbolsOf, offsetOf, sizeOf, rowAt, rowsFrom, rowsOf}
 use Rattle.automata.specs.Automaton.{withRow, withRows, backward, bringAllIn, rowsWalked}
-use Rattle.automata.specs.Walk.{Walks, RowsStand, rowsBetween, Walking}
+use Rattle.automata.specs.Walk.{Walks, RowsStand, rowsBetween, Span, AtRow, Walking}
 use Rattle.automata.proofs.ValidImage.{valid-kept, span-in, span-nines, pair-in, rows-of-symbol, valid-rows}
 use Rattle.automata.proofs.BackwardSets.{not-in-before, walked-is, all-in-full, all-in-stays}
 
@@ -99,36 +99,54 @@ part-stands {image} {count} {at} before part stand l e =
         ∙ rows-joined image before (part + behind) at
         ∙ ap (λ (rest : List Row). rowsFrom image before at ++ rest) (rows-joined image part behind (at + 9 * before))
 
--- the walk has come to the row at `at`
-module _ {image : List ℕ} {start end X at set : ℕ} (walk : Walking image start end X at set) where
+-- a walk has come to the row at `at`
+module _ {image : List ℕ} {start end at : ℕ} (here : AtRow image start end at) where
   -- the rows ahead are of the span
-  ahead : (count : ℕ) → at + 9 * count ≤ end → walk .rows + count ≤ (end - start) / 9
-  ahead count l = omega (arith, walk .place)
+  ahead : (count : ℕ) → at + 9 * count ≤ end → here .rows + count ≤ (end - start) / 9
+  ahead count l = omega (arith, here .place)
 
   span-stands : RowsStand image ((end - start) / 9) start
   span-stands =
       record {
-        inside = omega (arith, walk .span .ordered, walk .span .inside);
-        states = λ row m. let below = walk .span .states row m in omega (arith, valid-kept image (walk .span .valid) .states-fit);
+        inside = omega (arith, here .span .ordered, here .span .inside);
+        states = λ row m. let below = here .span .states row m in omega (arith, valid-kept image (here .span .valid) .states-fit);
       }
 
   stand : (count : ℕ) → at + 9 * count ≤ end → RowsStand image count at
-  stand count l = part-stands (walk .rows) count span-stands (ahead count l) (walk .place)
+  stand count l = part-stands (here .rows) count span-stands (ahead count l) (here .place)
 
   one-ahead : at < end → at + 9 * 1 ≤ end
-  one-ahead l = omega (arith, walk .place, walk .span .nines)
-
-  four-ahead : 36 ≤ end - at → at + 9 * 4 ≤ end
-  four-ahead l = omega (arith, walk .ordered)
+  one-ahead l = omega (arith, here .place, here .span .nines)
 
   pub one-stands : at < end → RowsStand image 1 at
   one-stands l = stand 1 (one-ahead l)
 
+  -- so many rows further
+  further : (count : ℕ) → at + 9 * count ≤ end → AtRow image start end (at + 9 * count)
+  further count l = record { span = here .span; rows = here .rows + count; place = omega (arith, here .place); ordered = l }
+
+  pub one-further : at < end → AtRow image start end (at + 9)
+  one-further l = further 1 (one-ahead l)
+
+  -- the rows from here on: the first of them and those behind it, or none
+  pub rows-ahead : at < end → rowsBetween image at end ≡ rowAt image at ∷ rowsBetween image (at + 9) end
+  unfolding rowsFrom
+  rows-ahead l = let e : (end - at) / 9 ≡ suc ((end - (at + 9)) / 9) = omega (arith, one-ahead l) in rw e
+
+  pub none-ahead : end ≤ at → rowsBetween image at end ≡ []
+  unfolding rowsFrom
+  none-ahead l = let e : (end - at) / 9 ≡ 0 = omega (arith, here .ordered) in rw e
+
+-- the walk for a backward set has come there
+module _ {image : List ℕ} {start end X at set : ℕ} (walk : Walking image start end X at set) where
+  four-ahead : 36 ≤ end - at → at + 9 * 4 ≤ end
+  four-ahead l = omega (arith, walk .at-row .ordered)
+
   pub four-stand : 36 ≤ end - at → RowsStand image 4 at
-  four-stand l = stand 4 (four-ahead l)
+  four-stand l = stand (walk .at-row) 4 (four-ahead l)
 
   -- a number of rows, at most one more than so far, is the number walked if it brings all states in or is that of all rows
-  is-walked : (result count : ℕ) → result ≡ count → count ≤ walk .rows + 1 → count ≤ (end - start) / 9
+  is-walked : (result count : ℕ) → result ≡ count → count ≤ walk .at-row .rows + 1 → count ≤ (end - start) / 9
       → T (bringAllIn (statesOf image) (rowsBetween image start end) X count) ⊎ (count ≡ (end - start) / 9)
       → result ≡ rowsWalked (statesOf image) (rowsBetween image start end) X
   is-walked result count r near few h =
@@ -145,27 +163,25 @@ module _ {image : List ℕ} {start end X at set : ℕ} (walk : Walking image sta
 
   -- what `count` rows more give, and whether they bring all states in
   module _ (count more all : ℕ) (bound : at + 9 * count ≤ end) (e : more ≡ withRows X set (rowsFrom image count at)) (ea : all ≡ full (statesOf image)) where
-    added : more ≡ backward (take (walk .rows + count) (rowsBetween image start end)) X
+    added : more ≡ backward (take (walk .at-row .rows + count) (rowsBetween image start end)) X
     unfolding backward
     added =
-        with-more-rows image X 0 start (walk .rows) count set more
-        (walk .so-far ∙ ap (withRows X 0) (rows-taken image (walk .rows) _ start (omega (arith, ahead count bound))))
-        (e ∙ ap (λ (place : ℕ). withRows X set (rowsFrom image count place)) (walk .place))
-        ∙ ap (withRows X 0) (sym (rows-taken image (walk .rows + count) _ start (ahead count bound)))
+        with-more-rows image X 0 start (walk .at-row .rows) count set more
+        (walk .so-far ∙ ap (withRows X 0) (rows-taken image (walk .at-row .rows) _ start (omega (arith, ahead (walk .at-row) count bound))))
+        (e ∙ ap (λ (place : ℕ). withRows X set (rowsFrom image count place)) (walk .at-row .place))
+        ∙ ap (withRows X 0) (sym (rows-taken image (walk .at-row .rows + count) _ start (ahead (walk .at-row) count bound)))
 
     goes : (more ≡ all → ⊥) → Walking image start end X (at + 9 * count) more
+    unfolding further
     goes f =
         record {
-          span = walk .span;
-          rows = walk .rows + count;
-          place = omega (arith, walk .place);
-          ordered = bound;
+          at-row = further (walk .at-row) count bound;
           so-far = added;
-          not-all = λ t. f (added ∙ all-in-full (statesOf image) (rowsBetween image start end) X (walk .span .states) _ .0 t ∙ sym ea);
+          not-all = λ t. f (added ∙ all-in-full (statesOf image) (rowsBetween image start end) X (walk .at-row .span .states) _ .0 t ∙ sym ea);
         }
 
-    fills : more ≡ all → T (bringAllIn (statesOf image) (rowsBetween image start end) X (walk .rows + count))
-    fills f = all-in-full (statesOf image) (rowsBetween image start end) X (walk .span .states) _ .1 (sym added ∙ f ∙ ea)
+    fills : more ≡ all → T (bringAllIn (statesOf image) (rowsBetween image start end) X (walk .at-row .rows + count))
+    fills f = all-in-full (statesOf image) (rowsBetween image start end) X (walk .at-row .span .states) _ .1 (sym added ∙ f ∙ ea)
 
   -- four rows more that do not bring all states in
   pub four-go : (more all : ℕ) → 36 ≤ end - at → more ≡ withRows X set (rowsFrom image 4 at) → all ≡ full (statesOf image) → (more ≡ all → ⊥)
@@ -175,14 +191,14 @@ module _ {image : List ℕ} {start end X at set : ℕ} (walk : Walking image sta
   -- one row more
   module _ (more all : ℕ) (l : at < end) (e : more ≡ withRows X set (rowsFrom image 1 at)) (ea : all ≡ full (statesOf image)) where
     pub one-goes : (more ≡ all → ⊥) → Walking image start end X (at + 9) more
-    one-goes f = goes 1 more all (one-ahead l) e ea f
+    one-goes f = goes 1 more all (one-ahead (walk .at-row) l) e ea f
 
     one-answers : more ≡ all → Walks (statesOf image) (rowsBetween image start end) X more ((at + 9 - start) / 9)
     one-answers f =
-        let all-in = fills 1 more all (one-ahead l) e ea f in
+        let all-in = fills 1 more all (one-ahead (walk .at-row) l) e ea f in
         record {
-          states = added 1 more all (one-ahead l) e ea ∙ all-in-stays (statesOf image) (rowsBetween image start end) X (walk .span .states) _ all-in;
-          counted = is-walked ((at + 9 - start) / 9) (walk .rows + 1) (omega (arith, walk .place)) (omega arith) (ahead 1 (one-ahead l)) (inl all-in);
+          states = added 1 more all (one-ahead (walk .at-row) l) e ea ∙ all-in-stays (statesOf image) (rowsBetween image start end) X (walk .at-row .span .states) _ all-in;
+          counted = is-walked ((at + 9 - start) / 9) (walk .at-row .rows + 1) (omega (arith, walk .at-row .place)) (omega arith) (ahead (walk .at-row) 1 (one-ahead (walk .at-row) l)) (inl all-in);
         }
 
   -- no row more
@@ -190,14 +206,18 @@ module _ {image : List ℕ} {start end X at set : ℕ} (walk : Walking image sta
   none-answers l =
       record {
         states = walk .so-far ∙ ap (λ (rows : List Row). backward rows X) whole;
-        counted = is-walked ((at - start) / 9) (walk .rows) (omega (arith, walk .place)) (omega arith) (omega (arith, every)) (inr every);
+        counted = is-walked ((at - start) / 9) (walk .at-row .rows) (omega (arith, walk .at-row .place)) (omega arith) (omega (arith, every)) (inr every);
       }
     where
-      every : walk .rows ≡ (end - start) / 9
-      every = omega (arith, walk .place, walk .ordered)
+      every : walk .at-row .rows ≡ (end - start) / 9
+      every = omega (arith, walk .at-row .place, walk .at-row .ordered)
 
-      whole : take (walk .rows) (rowsBetween image start end) ≡ rowsBetween image start end
+      whole : take (walk .at-row .rows) (rowsBetween image start end) ≡ rowsBetween image start end
       whole = ap (λ (rows : ℕ). take rows (rowsBetween image start end)) every ∙ rows-taken image _ _ start (omega arith)
+
+-- the walk begins at the first row
+pub first-row : {image : List ℕ} {start end : ℕ} → Span image start end → AtRow image start end start
+first-row span = record { span = span; rows = 0; place = omega arith; ordered = span .ordered }
 
 -- the walk over the rows of a symbol of a valid image
 module _ (image : List ℕ) (s : ℕ) (asked : Valid image × (s < symbolsOf image)) where
@@ -205,23 +225,24 @@ module _ (image : List ℕ) (s : ℕ) (asked : Valid image × (s < symbolsOf ima
   pair-readable = pair-in image (asked .0) s (asked .1)
 
   module _ (start size : ℕ) (eo : start ≡ offsetOf image s) (ez : size ≡ sizeOf image s) where
-    span-rows : rowsBetween image start (start + size) ≡ rowsOf image s
+    pub span-rows : rowsBetween image start (start + size) ≡ rowsOf image s
     span-rows = let count : (start + size - start) / 9 ≡ sizeOf image s / 9 = omega (arith, ez) in rw (rows-of-symbol image s (asked .1), count, eo)
 
+    pub symbol-span : Span image start (start + size)
+    symbol-span =
+        record {
+          valid = asked .0;
+          ordered = omega arith;
+          inside = omega (arith, span-in image (asked .0) s (asked .1));
+          nines = omega (arith, span-nines image (asked .0) s (asked .1));
+          states = λ row m. valid-rows image (asked .0) s (asked .1) row (rw span-rows at m) .state-below;
+        }
+
     pub walk-starts : (X : ℕ) → Walking image start (start + size) X start 0
-    unfolding bringAllIn backward withRows
+    unfolding first-row bringAllIn backward withRows
     walk-starts X =
         record {
-          span = record {
-            valid = asked .0;
-            ordered = omega arith;
-            inside = omega (arith, span-in image (asked .0) s (asked .1));
-            nines = omega (arith, span-nines image (asked .0) s (asked .1));
-            states = λ row m. valid-rows image (asked .0) s (asked .1) row (rw span-rows at m) .state-below;
-          };
-          rows = 0;
-          place = omega arith;
-          ordered = omega arith;
+          at-row = first-row symbol-span;
           so-far = refl;
           not-all = λ t.
               empty-members 0

@@ -1,4 +1,4 @@
--- What an image that no check refuses keeps: its sizes, its spans, its rows. Assumes nothing.
+-- What an image that no check refuses keeps: its sizes, its spans, its rows, and the automaton that it holds. Assumes nothing.
 use Prim.Native.Nat.{ℕ, zero, suc, _+_, _-_, _*_, _/_, _%_, _≤_, _<_}
 use mathlib.Core.Path.{_≡_, refl, subst}
 use mathlib.Core.Bool.{Bool, true, false}
@@ -9,12 +9,13 @@ use lib.Dec.{T, eqb, ltb, eqb→eq, ltb→lt}
 use borrow.Author.Tests.{eqb-false, ltb-false, lt-ltb, le-ltb}
 use lib.ListN.{length}
 use Rattle.lists.specs.Tests.{_and_, _or_}
-use Rattle.lists.specs.Lists.{Each}
+use Rattle.lists.specs.Lists.{_∈_, Each}
 use Rattle.lists.proofs.Tests.{is-false, and-left, and-right, or-left, or-right, neg-neg, choose-true, choose-false}
 use Rattle.lists.proofs.Lists.{in-none, each-more, each-from-at}
 use Rattle.masks.specs.Sets.{within}
 use Rattle.automata.specs.Image.{Row, Valid, statesOf, symbolsOf, rowCountOf, initialOf, finalOf, offsetOf, sizeOf}
 use Rattle.automata.specs.Image.{rowsStart, spanStart, pairHolds, pairsHold, rowAt, rowsFrom, rowsOf, rowHolds, rowsHold, outside, check, checkImage}
+use Rattle.automata.specs.Automaton.{Automaton, automatonOf}
 
 -- what the checks leave of an image that they do not refuse
 pub record Kept (image : List ℕ) : Type 0 where
@@ -155,3 +156,19 @@ module _ (image : List ℕ) (valid : Valid image) where
         let e = span-begins s symbol in
         rw (rows-of-symbol image s symbol)
         (rows-kept (sizeOf image s / 9) (offsetOf image s) (omega arith) (omega arith) (omega (arith, span-in)))
+
+-- what the checks leave of the automaton that an image holds
+pub record Proper (A : Automaton) : Type 0 where
+  pub initial-within : T (within (A .states) (A .initial))
+  pub final-within : T (within (A .states) (A .final))
+  pub row-state : (s : ℕ) → s < A .symbols → (row : Row) → row ∈ A .rows s → row .state < A .states
+  pub row-case : (s : ℕ) → s < A .symbols → (row : Row) → row ∈ A .rows s → T (within (A .states) (row .case))
+
+pub valid-proper : (image : List ℕ) → Valid image → Proper (automatonOf image)
+valid-proper image valid =
+    record {
+      initial-within = valid-kept image valid .initial-within;
+      final-within = valid-kept image valid .final-within;
+      row-state = λ s l row m. valid-rows image valid s l row m .state-below;
+      row-case = λ s l row m. valid-rows image valid s l row m .case-within;
+    }

@@ -3,23 +3,25 @@ use Prim.Native.Nat.{ℕ, zero, suc, _+_, _-_, _≤_, _<_}
 use mathlib.Core.Path.{_≡_, refl, sym, ap, _∙_}
 use mathlib.Core.Bool.{Bool, true, false, not}
 use mathlib.Core.List.{List}
+use mathlib.Core.Logic.{_⊎_, inl, inr}
 use native.Mathlib.Omega.{arith}
 use borrow.Author.Tests.{le-ltb, lt-ltb, not-true, not-false}
-use lib.Dec.{T, ltb, ltb→lt}
+use lib.Dec.{T, ltb, ltb→lt, lt→ltb}
 use lib.ListN.{length, getD, drop}
 use lib.Seq.{drop-length}
 use Rattle.lists.specs.Tests.{neg}
 use Rattle.lists.specs.Lists.{Each, all}
-use Rattle.lists.proofs.Tests.{holds}
-use Rattle.lists.proofs.Lists.{at-in, drop-first, all-fails, all-holds, all-ends, all-each}
+use Rattle.lists.proofs.Tests.{holds, is-true}
+use Rattle.lists.proofs.Lists.{at-in, drop-first, all-fails, all-holds, all-ends, all-each, each-all}
 use Rattle.masks.specs.Sets.{subset}
-use Rattle.automata.specs.Image.{Valid, symbolsOf, initialOf, finalOf, rowsOf, check, checkImage}
+use Rattle.automata.specs.Image.{Valid, symbolsOf, rowsOf, check, checkImage}
 use Rattle.automata.specs.Automaton.{automatonOf, backward, takenBack}
-use Rattle.automata.specs.WordTest.{oneIf, accepts, known, testWord, wordTest}
+use Rattle.automata.specs.WordTest.{oneIf, accepts, known, WordOf, testWord, wordTest}
 use Rattle.automata.specs.Answers.{headOf, readWith, readImage}
 use Rattle.automata.specs.declared.image.Head.{Head}
 use Rattle.automata.specs.declared.image.Image.{Image}
 use Rattle.automata.specs.declared.image.Image.the-variants as Answer
+use Rattle.automata.proofs.Checks.{check-number}
 
 -- the loop over the word's symbols, before symbol i
 pub record SymbolsLeft (word : List ℕ) (symbols i : ℕ) : Type 0 where
@@ -43,6 +45,10 @@ module _ {word : List ℕ} {symbols i : ℕ} (left : SymbolsLeft word symbols i)
   unfolding known
   symbols-end l = sym (all-ends (λ s. ltb s symbols) word i l) ∙ left .rest
 
+-- a symbol of the word is the automaton's
+pub symbol-known : {image word : List ℕ} {i : ℕ} → WordOf image word → i < length word → getD word i 0 < symbolsOf image
+symbol-known {image} {word} {i} known l = known .symbols (getD word i 0) (at-in word i l)
+
 -- the loop that takes a case back, with the first i symbols still to go
 pub record TakenFrom (image word : List ℕ) (X i case : ℕ) : Type 0 where
   pub bound : i ≤ length word
@@ -53,8 +59,8 @@ unfolding takenBack
 taken-none {image} {word} {X} = record { bound = omega arith; taken = ap (λ (w : List ℕ). takenBack (automatonOf image) w X) (sym (drop-length word)) }
 
 module _ {image word : List ℕ} {X i case : ℕ} (from : TakenFrom image word X i case) where
-  pub symbol-known : Each (λ s. s < symbolsOf image) word → 0 < i → getD word (i - 1) 0 < symbolsOf image
-  symbol-known symbols h = symbols (getD word (i - 1) 0) (at-in word (i - 1) (omega (arith, from .bound)))
+  pub last-known : WordOf image word → 0 < i → getD word (i - 1) 0 < symbolsOf image
+  last-known known h = symbol-known known (omega (arith, from .bound))
 
   pub taken-more : (set : ℕ) → 0 < i → set ≡ backward (rowsOf image (getD word (i - 1) 0)) case → TakenFrom image word X (i - 1) set
   unfolding takenBack
@@ -88,6 +94,23 @@ module _ (image : List ℕ) (answer : Image) (read : answer ≡ readImage image)
   unfolding readImage
   answer-head = is-valid image (checkImage image) head (sym read ∙ e) .1
 
+-- a word of the automaton's symbols is told by whether F, taken back by them, contains I
+pub word-of-tested : {image word : List ℕ} → WordOf image word → wordTest image word ≡ oneIf (accepts (automatonOf image) word)
+unfolding wordTest testWord known check neg
+word-of-tested {image} {word} known =
+    let below : all (λ s. ltb s (symbolsOf image)) word ≡ true
+    = is-true _ (each-all (λ s. ltb s (symbolsOf image)) word (λ s m. lt→ltb s (symbolsOf image) (known .symbols s m))) in
+    rw (known .valid, below)
+
+-- no image is refused under 0 or 1
+pub refused-high : (image : List ℕ) (answer : Image) → answer ≡ readImage image → (number : ℕ) → answer ≡ Answer.Refused number → 20 ≤ number
+unfolding readImage
+refused-high image answer read number e = at (is-refused image (checkImage image) number (sym read ∙ e)) (check-number image)
+  where
+    at : (checkImage image ≡ number) × (0 < checkImage image) → (checkImage image ≡ 0) ⊎ ((20 ≤ checkImage image) × (checkImage image ≤ 27)) → 20 ≤ number
+    at r (inl z) = absurd (omega (arith, r .1))
+    at r (inr high) = omega (arith, r .0, high .0)
+
 -- the answers of the word test
 module _ (image word : List ℕ) (answer : Image) (read : answer ≡ readImage image) where
   pub test-refused : (number : ℕ) → answer ≡ Answer.Refused number → number ≡ wordTest image word
@@ -111,20 +134,20 @@ module _ (image word : List ℕ) (answer : Image) (read : answer ≡ readImage i
     test-unknown t = sym (tested ∙ rw (not-true below t))
 
     module _ (known : not below ≡ false) where
-      pub word-symbols : Each (λ s. s < symbolsOf image) word
+      word-symbols : Each (λ s. s < symbolsOf image) word
       unfolding known
       word-symbols s m =
           let t : T (all (λ s. ltb s (head .symbols)) word) = holds (sym all-below ∙ not-false below known) in
           rw (← head-symbols) (ltb→lt s (head .symbols) (all-each (λ s. ltb s (head .symbols)) word t s m))
 
+      pub word-of : WordOf image word
+      word-of = record { valid = answer-valid image answer read head e; symbols = word-symbols }
+
       module _ (back : ℕ) (taken : back ≡ takenBack (automatonOf image) word (head .finals)) where
         module _ (inside : Bool) (test : inside ≡ subset (head .initial) back) where
           answered : wordTest image word ≡ oneIf inside
-          unfolding check neg accepts
-          answered =
-              let i : head .initial ≡ initialOf image = ap (λ (h : Head). h .initial) (answer-head image answer read head e) in
-              let f : head .finals ≡ finalOf image = ap (λ (h : Head). h .finals) (answer-head image answer read head e) in
-              tested ∙ rw (not-false below known, test, taken, i, f)
+          unfolding accepts
+          answered = let h = answer-head image answer read head e in word-of-tested word-of ∙ ap oneIf (sym (rw (taken, h) at test))
 
           pub test-accepts : inside ≡ true → 1 ≡ wordTest image word
           unfolding oneIf

@@ -1,12 +1,16 @@
--- The walk over a symbol's rows: what it answers, and what its functions ask of one another. Assumes nothing: these are definitions.
+-- The walks over a symbol's rows, for a backward set and for the picks of a run: what they answer, and what their functions ask of one another.
+-- Assumes nothing: these are definitions.
 use Prim.Native.Nat.{ℕ, _+_, _-_, _*_, _/_, _%_, _≤_, _<_}
 use mathlib.Core.Path.{_≡_}
 use mathlib.Core.List.{List}
 use lib.Dec.{T}
 use lib.ListN.{length, take}
+use Rattle.lists.specs.Tests.{_and_, choose}
 use Rattle.lists.specs.Lists.{Each}
+use Rattle.masks.specs.Sets.{subset, union, single, absent}
 use Rattle.automata.specs.Image.{Row, Valid, statesOf, rowsFrom}
 use Rattle.automata.specs.Automaton.{backward, bringAllIn, rowsWalked}
+use Rattle.automata.specs.declared.picks.Picked.{Picked}
 
 -- the answer of a walk over the rows of an automaton with n states: the backward set of X, and how many of the rows were walked
 pub record Walks (n : ℕ) (rows : List Row) (X set walked : ℕ) : Type 0 where
@@ -30,11 +34,23 @@ pub record Span (image : List ℕ) (start end : ℕ) : Type 0 where
   pub nines : (end - start) % 9 ≡ 0
   pub states : Each (λ row. row .state < statesOf image) (rowsBetween image start end)
 
--- the walk over these rows for the backward set of X has come to the row at `at`: the rows before it gave the set, and have not brought all states in
-pub record Walking (image : List ℕ) (start end X at set : ℕ) : Type 0 where
+-- a walk over these rows has come to the row at `at`
+pub record AtRow (image : List ℕ) (start end at : ℕ) : Type 0 where
   pub span : Span image start end
   pub rows : ℕ
   pub place : at ≡ start + 9 * rows
   pub ordered : at ≤ end
-  pub so-far : set ≡ backward (take rows (rowsBetween image start end)) X
-  pub not-all : T (bringAllIn (statesOf image) (rowsBetween image start end) X rows) → ⊥
+
+-- and there the walk for the backward set of X: the rows before gave the set, and have not brought all states in
+pub record Walking (image : List ℕ) (start end X at set : ℕ) : Type 0 where
+  pub at-row : AtRow image start end at
+  pub so-far : set ≡ backward (take (at-row .rows) (rowsBetween image start end)) X
+  pub not-all : T (bringAllIn (statesOf image) (rowsBetween image start end) X (at-row .rows)) → ⊥
+
+-- One walk over the rows picks for all states of X: a row is picked where its state has not picked and its case lies inside the set. So far: the states
+-- that have picked, and the union of the picked cases.
+unfoldable pub pickRow : ℕ → ℕ → Picked → Row → Picked
+pickRow set X so-far row =
+    choose (absent X (so-far .states) (row .state) and subset (row .case) set)
+    (record { states = union (so-far .states) (single (row .state)); case = union (so-far .case) (row .case) })
+    so-far

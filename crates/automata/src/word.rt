@@ -4,14 +4,11 @@ use crate::image::Image;
 use crate::image::Symbol;
 use crate::image::read_image;
 ghost use mathlib.Core.Path.{_≡_};
-ghost use Prim.Native.Nat.{_<_};
-ghost use Rattle.lists.specs.Lists.{Each};
-ghost use Rattle.automata.specs.Image.{Valid, symbolsOf};
 ghost use Rattle.automata.specs.Automaton.{automatonOf, takenBack};
-ghost use Rattle.automata.specs.WordTest.{known, wordTest};
+ghost use Rattle.automata.specs.WordTest.{known, WordOf, wordTest};
 
 // Whether each symbol of the word is below `symbols`.
-fn symbols_below(word: &[u8], symbols: u8) -> bool
+pub fn symbols_below(word: &[u8], symbols: u8) -> bool
     ensures { λ r. ⌜ r ≡ known symbols (now (word .entry)) ⌝ }
 {
     let mut i: usize = 0;
@@ -25,8 +22,8 @@ fn symbols_below(word: &[u8], symbols: u8) -> bool
 }
 
 // The case x taken back by the word's symbols, from last to first.
-fn taken_back(image: &[u8], word: &[u8], x: u64) -> u64
-    requires { ⌜ Valid (now image) × Each (λ s. s < symbolsOf (now image)) (now word) ⌝ }
+pub fn taken_back(image: &[u8], word: &[u8], x: u64) -> u64
+    requires { ⌜ WordOf (now image) (now word) ⌝ }
     ensures { λ r. ⌜ r ≡ takenBack (automatonOf (now (image .entry))) (now (word .entry)) x ⌝ }
 {
     let mut case = x;

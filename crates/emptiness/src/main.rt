@@ -12,17 +12,24 @@ fn number_of(read: Image) -> u64 {
     }
 }
 
+// A number in decimal; one of 64 bits has at most 20 digits.
+fn print_number(number: u64) {
+    let mut digits = [0u8; 20];
+    let end = writing::put_number(&mut digits, 0, number);
+    io::write_all(1, &digits[..end]);
+}
+
 // Line 1: the five numbers.
 fn print_counts(counts: Counts) {
-    io::print_decimal(1, counts.number);
+    print_number(counts.number);
     io::write_all(1, b" ");
-    io::print_decimal(1, counts.steps);
+    print_number(counts.steps);
     io::write_all(1, b" ");
-    io::print_decimal(1, counts.level.0 as u64);
+    print_number(counts.level.0 as u64);
     io::write_all(1, b" ");
-    io::print_decimal(1, counts.blockers);
+    print_number(counts.blockers);
     io::write_all(1, b" ");
-    io::print_decimal(1, counts.accepted);
+    print_number(counts.accepted);
     io::write_all(1, b"\n");
 }
 
@@ -31,7 +38,7 @@ fn print_place(place: usize, number: u64) {
     if 0 < place {
         io::write_all(1, b" ");
     }
-    io::print_decimal(1, number);
+    print_number(number);
 }
 
 // The first `count` masks of the table, or all if it has fewer.

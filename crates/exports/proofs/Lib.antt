@@ -1,4 +1,5 @@
 -- Laws of what the C interface gives back.
 pub mod Heads
+pub mod Prints
 pub mod Runs
 pub mod Reasons

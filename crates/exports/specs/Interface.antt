@@ -1,8 +1,10 @@
--- What the C interface gives back: for a run 01's number, the counts beside it, and the lent tables; for a reason its number and two values.
+-- What the C interface gives back: for a run 01's number, the counts beside it, and the lent tables; for a reason its number and two values; for bytes the
+-- number, the length and the room.
 -- Assumes nothing: these are definitions.
 use Prim.Native.Nat.{ℕ}
 use mathlib.Core.Path.{_≡_}
 use mathlib.Core.List.{List, [], _∷_}
+use Rattle.writing.specs.Rooms.{Answer}
 use Rattle.machine.specs.Lent.{BlockerRoom}
 use Rattle.machine.specs.Why.{Reason, byBlocker, byStart, nothing}
 use Rattle.machine.specs.Runs.{Result}
@@ -33,3 +35,9 @@ reasonValues (byStart q) = q ∷ 0 ∷ []
 pub record Told (number : ℕ) (values : List ℕ) (reason : Reason) : Type 0 where
   pub numbered : number ≡ reasonNumber reason
   pub valued : values ≡ reasonValues reason
+
+-- what was written into a room: the number, the length in the one place that is lent for it, and what the room holds
+pub record Wrote (number : ℕ) (lengths room : List ℕ) (answer : Answer) : Type 0 where
+  pub numbered : number ≡ answer .number
+  pub counted : lengths ≡ answer .written ∷ []
+  pub holds : room ≡ answer .room

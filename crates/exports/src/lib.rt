@@ -5,11 +5,12 @@ use blockers::reasons::Reason;
 ghost use mathlib.Core.Path.{_≡_};
 ghost use Rattle.automata.specs.Answers.{readImage, imageNumber, headAfter};
 ghost use Rattle.automata.specs.WordTest.{wordTest};
+ghost use Rattle.printing.specs.Print.{printRun};
 ghost use Rattle.machine.specs.Lent.{roomOf, blockersIn};
 ghost use Rattle.machine.specs.Why.{why};
 ghost use Rattle.machine.specs.Runs.{runOf};
 ghost use Rattle.checker.specs.Stage.{lentOf, termsOf};
-ghost use Rattle.exports.specs.Interface.{Ran, Told};
+ghost use Rattle.exports.specs.Interface.{Wrote, Ran, Told};
 
 // 0, and n, k, m, I and F in `head`; or the refusing number, and `head` as it was.
 #[no_mangle]
@@ -38,6 +39,22 @@ pub extern "C" fn afa_accepts(image: &[u8], word: &[u8]) -> u64
     ensures { λ r. ⌜ r ≡ wordTest (now (image .entry)) (now (word .entry)) ⌝ }
 {
     automata::word::word_test(image, word)
+}
+
+// The print of the word's run in `room`, from its first place on: 1 with the length of the print in `length`; or 0 where the word is not accepted, 35 where
+// the room is too short, or the number under which the image or the word is refused, with 0 in `length` and the room as it was.
+#[no_mangle]
+pub extern "C" fn afa_print_run(
+    image: &[u8],
+    word: &[u8],
+    room: &mut [u8],
+    length: &mut [u64; 1],
+) -> u64
+    ensures { λ r. ⌜ Wrote r (now (length .exit)) (now (room .exit)) (printRun (now (image .entry)) (now (word .entry)) (now (room .entry))) ⌝ }
+{
+    let made = printing::print::print_run(image, word, room);
+    *length = [made.length as u64];
+    made.number
 }
 
 // The number of a run, with steps, level, blockers held and hints accepted in `counts`. A refused run leaves its tables as they were.

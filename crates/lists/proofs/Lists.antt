@@ -12,13 +12,8 @@ use lib.Dec.{T}
 use lib.ListN.{length, getD, take, drop, take-append-drop, drop-of-length-le}
 use lib.Seq.{drop-cons}
 use Rattle.lists.specs.Tests.{_and_, _or_, choose}
-use Rattle.lists.specs.Lists.{_∈_, here, there, Each, any, all, keep, firstFrom, orElse, eachFrom}
+use Rattle.lists.specs.Lists.{_∈_, here, there, Each, any, all, keep, firstOf, IsFirst, firstFrom, orElse, eachFrom}
 use Rattle.lists.proofs.Tests.{holds, fails, and-left, and-right, and-both, or-cases, or-left, or-right, or-joined, decide}
-
--- the first element for which the test holds
-unfoldable pub firstOf : {A : Type 0} → (A → Bool) → List A → Option A
-firstOf test [] = none
-firstOf test (x ∷ l) = let later = firstOf test l in choose (test x) (some x) later
 
 module _ {A : Type 0} where
   pub in-none : {x : A} → x ∈ [] → ⊥
@@ -182,7 +177,26 @@ module _ {A : Type 0} where
       at true e = ap (λ (l : List A). x ∷ l) e
       at false e = e
 
-  -- firstOf: none has the test, or one of the list's elements has it
+  -- firstOf: the answer is the first that has the test, or none has it
+  pub first-of-some : (test : A → Bool) (l : List A) {x : A} → firstOf test l ≡ some x → IsFirst test l x
+  unfolding firstOf choose
+  first-of-some test [] e = let z : _≡_ {A = ℕ} 0 1 = cc in absurd (omega arith)
+  first-of-some test (y ∷ l) {x} e = at (λ q. first-of-some test l q) (test y) refl e
+    where
+      at : (firstOf test l ≡ some x → IsFirst test l x) → (b : Bool) → test y ≡ b → choose b (some y) (firstOf test l) ≡ some x → IsFirst test (y ∷ l) x
+      at rec true q e′ =
+          let p : y ≡ x = cc in
+          record { before = []; after = l; stands = ap (λ (z : A). z ∷ l) p; passes = rw (← p) (holds q); none-before = λ z m. absurd (in-none m) }
+      at rec false q e′ =
+          let r = rec e′ in
+          record {
+            before = y ∷ r .before;
+            after = r .after;
+            stands = ap (λ (rest : List A). y ∷ rest) (r .stands);
+            passes = r .passes;
+            none-before = each-more (fails q) (r .none-before);
+          }
+
   pub first-of-none : (test : A → Bool) (l : List A) → firstOf test l ≡ none → Each (λ x. T (test x) → ⊥) l
   unfolding firstOf choose
   first-of-none test [] e x m t = in-none m
@@ -193,14 +207,8 @@ module _ {A : Type 0} where
       at rec false q e′ (inl p) = fails q (rw p at t)
       at rec false q e′ (inr h) = rec e′ h
 
-  pub first-of-some : (test : A → Bool) (l : List A) {x : A} → firstOf test l ≡ some x → x ∈ l × T (test x)
-  unfolding firstOf choose
-  first-of-some test [] e = let z : _≡_ {A = ℕ} 0 1 = cc in absurd (omega arith)
-  first-of-some test (y ∷ l) {x} e = at (λ q. first-of-some test l q) (test y) refl e
-    where
-      at : (firstOf test l ≡ some x → x ∈ l × T (test x)) → (b : Bool) → test y ≡ b → choose b (some y) (firstOf test l) ≡ some x → x ∈ (y ∷ l) × T (test x)
-      at rec true q e′ = let p : y ≡ x = cc in (here (sym p), rw (← p) (holds q))
-      at rec false q e′ = let r = rec e′ in (there (r .0), r .1)
+  pub first-in : {test : A → Bool} {l : List A} {x : A} → IsFirst test l x → x ∈ l
+  first-in {test} {l} {x} first = subst (λ (whole : List A). x ∈ whole) (sym (first .stands)) (in-right (first .before) (here refl))
 
 -- firstFrom: none of the numbers has the test, or the answer is one that has it
 pub first-from-none : (test : ℕ → Bool) (count start : ℕ) → firstFrom test count start ≡ none → (s : ℕ) → start ≤ s → s < start + count → T (test s) → ⊥

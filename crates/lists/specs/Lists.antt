@@ -2,8 +2,9 @@
 use Prim.Native.Nat.{ℕ, zero, suc}
 use mathlib.Core.Path.{_≡_}
 use mathlib.Core.Bool.{Bool, true, false}
-use mathlib.Core.List.{List, [], _∷_}
+use mathlib.Core.List.{List, [], _∷_, _++_}
 use mathlib.Core.Option.{Option, none, some}
+use lib.Dec.{T}
 use Rattle.lists.specs.Tests.{_and_, _or_, choose}
 
 infix 40 _∈_
@@ -30,6 +31,19 @@ all test (x ∷ l) = test x and all test l
 unfoldable pub keep : {A : Type 0} → (A → Bool) → List A → List A
 keep test [] = []
 keep test (x ∷ l) = choose (test x) (x ∷ keep test l) (keep test l)
+
+-- the first element for which the test holds
+unfoldable pub firstOf : {A : Type 0} → (A → Bool) → List A → Option A
+firstOf test [] = none
+firstOf test (x ∷ l) = let later = firstOf test l in choose (test x) (some x) later
+
+-- x is that one: the test holds of it, and of none before it
+pub record IsFirst {A : Type 0} (test : A → Bool) (l : List A) (x : A) : Type 0 where
+  pub before : List A
+  pub after : List A
+  pub stands : l ≡ before ++ (x ∷ after)
+  pub passes : T (test x)
+  pub none-before : Each (λ y. T (test y) → ⊥) before
 
 -- of the `count` numbers from `start` on, the first for which the test holds
 unfoldable pub firstFrom : (ℕ → Bool) → ℕ → ℕ → Option ℕ

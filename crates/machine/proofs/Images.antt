@@ -15,7 +15,8 @@ use Rattle.automata.specs.Automaton.{takenBack as takenBackBy}
 use Rattle.automata.specs.Acceptance.{Accepted}
 use Rattle.automata.specs.WordTest.{accepts as acceptsBack}
 use Rattle.automata.proofs.BackwardSets.{backward-monotone, backward-within, walked-least, walked-same}
-use Rattle.automata.proofs.AcceptedWords.{valid-proper, accepted-means}
+use Rattle.automata.proofs.ValidImage.{valid-proper}
+use Rattle.automata.proofs.AcceptedWords.{accepted-means}
 use Rattle.machine.specs.Runs.{systemOf}
 use Rattle.machine.specs.Promises.{WalkPromises}
 use Rattle.machine.proofs.Language.{takenBack, Word, accepts, Lawful, SameLanguage}

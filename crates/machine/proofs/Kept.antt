@@ -1,11 +1,14 @@
 -- Every promise is kept. Assumes nothing.
+use native.Mathlib.Omega.{arith}
 use Rattle.machine.specs.Promises.{Promises}
 use Rattle.automata.proofs.Reading.{reading-refused, reading-refused-values, reading-valid, reading-valid-values}
+use Rattle.writing.proofs.Decimals.{digits-one, digits-decimal}
 use Rattle.machine.proofs.WordTests.{refuses-image, refuses-symbol, says-yes, says-no, same-answer}
 use Rattle.machine.proofs.RunsKept.{run-promises, runs-agree, block-unpends, entered-in-order}
 use Rattle.machine.proofs.Reasons.{why-tells}
 use Rattle.machine.proofs.LentTables.{blockers-length}
 use Rattle.machine.proofs.Images.{walk-tells}
+use Rattle.machine.proofs.Printing.{prints-kept}
 
 pub kept : Promises
 kept = record {
@@ -25,4 +28,7 @@ kept = record {
   why-tells = why-tells;
   shorter-counts = λ masks levels. blockers-length _ _ _;
   walk-tells = walk-tells;
+  prints = prints-kept;
+  decimals = digits-decimal;
+  decimal-zero = digits-one 0 (omega arith);
 }

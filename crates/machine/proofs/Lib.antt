@@ -22,5 +22,6 @@ pub mod Images
 pub mod Judging
 pub mod RecordSteps
 pub mod RunsKept
+pub mod Printing
 pub mod Kept
 pub mod StarredRight

@@ -17,7 +17,8 @@ use Rattle.automata.specs.Acceptance.{Accepted}
 use Rattle.automata.specs.WordTest.{oneIf, accepts, known, testWord, wordTest}
 use Rattle.automata.proofs.Checks.{check-number}
 use Rattle.automata.proofs.BackwardSets.{taken-back-same}
-use Rattle.automata.proofs.AcceptedWords.{valid-proper, accepted-means}
+use Rattle.automata.proofs.ValidImage.{valid-proper}
+use Rattle.automata.proofs.AcceptedWords.{accepted-means}
 use Rattle.machine.specs.Promises.{HasUnknown}
 
 -- what the test's number says, in one of four ways

@@ -12,7 +12,11 @@ use Rattle.automata.specs.Image.{Row, Valid, checkImage, statesOf, symbolsOf, r
 use Rattle.automata.specs.Automaton.{automatonOf, backward, bringAllIn, rowsWalked, HoldOne}
 use Rattle.automata.specs.Acceptance.{Accepted}
 use Rattle.automata.specs.WordTest.{wordTest}
+use Rattle.automata.specs.Picks.{eventsOf, FormRun, AllPick}
 use Rattle.automata.specs.Answers.{readImage, imageNumber, headAfter}
+use Rattle.writing.specs.Decimal.{digits, IsDecimal}
+use Rattle.writing.specs.Rooms.{Answer, noBytes, allBytes}
+use Rattle.printing.specs.Print.{printOf, printRun}
 use Rattle.machine.specs.Machine.{Blocker, Pending, Configuration, Rooms, Outcome, ends, begin, blocks, step, blocked}
 use Rattle.machine.specs.Meaning.{Closed, EnteredInOrder, WorksIn, EndedBy}
 use Rattle.machine.specs.Why.{Reason, byBlocker, byStart, nothing, why, FirstCovering, LowestAbsent}
@@ -116,6 +120,20 @@ pub record WalkPromises (n : ℕ) (rows : List Row) (X walked : ℕ) : Type 0 wh
   -- "The set stays the same."
   pub same-set : backward (take walked rows) X ≡ backward rows X
 
+-- 02, 1: the promises of the print of a word's run into a room
+pub record PrintPromises (image word room : List ℕ) (answer : Answer) : Type 0 where
+  -- "Checks: the word test's come first; a word not accepted gives 0"
+  pub word-test-first : (wordTest image word ≡ 1 → ⊥) → answer ≡ noBytes (wordTest image word) room
+  -- ".. a room too short 35"
+  pub too-short : wordTest image word ≡ 1 → length room < length (printOf (automatonOf image) word) → answer ≡ noBytes 35 room
+  -- 01: "on success .. (for the print of a word's run, 1) with that length, the bytes past it staying"
+  pub success : wordTest image word ≡ 1 → length (printOf (automatonOf image) word) ≤ length room
+      → answer ≡ allBytes 1 (printOf (automatonOf image) word) room
+  -- "Show that the lines form a run by the definition and end in a final case": from I, into F
+  pub form-run : Valid image → Accepted (automatonOf image) word → FormRun (automatonOf image) (finalOf image) (initialOf image) word (eventsOf (automatonOf image) word)
+  -- "each state picks the first row in image order whose case lies inside the backward set of what remains of the word": there is one
+  pub all-pick : Valid image → Accepted (automatonOf image) word → AllPick (automatonOf image) (finalOf image) (initialOf image) word
+
 -- two runs that reached a verdict: the same one, and words of the same length
 pub record Agreed (r s : Result) : Type 0 where
   pub verdict : r .number ≡ s .number
@@ -157,3 +175,8 @@ pub record Promises : Type 0 where
   -- 02, 3: "let it tell how many of the symbol's rows it walked"
   pub walk-tells : (image : List ℕ) (s X : ℕ) → Valid image → s < symbolsOf image
       → WalkPromises (statesOf image) (rowsOf image s) X (rowsWalked (statesOf image) (rowsOf image s) X)
+  -- 02, 1: the print of a word's run, for every input
+  pub prints : (image word room : List ℕ) → PrintPromises image word room (printRun image word room)
+  -- "Decimals are written digit by digit, most significant first": read back they are the number, and no 0 stands in front; 0 is one digit
+  pub decimals : (number : ℕ) → IsDecimal number (digits number)
+  pub decimal-zero : digits 0 ≡ 48 ∷ []

@@ -230,6 +230,12 @@ missing-absent a b q = (
     from x (suc zero) both m l e f = absurd (f refl)
     from x (suc (suc y)) both m l e f = absurd (omega arith)
 
+pub missing-tested : (a b q : ℕ) (test : Bool) → test ≡ member q (bitXor (bitAnd a b) a) → test ≡ absent a b q
+missing-tested a b q test e =
+    e
+    ∙ same-test (member q (bitXor (bitAnd a b) a)) (absent a b q) (λ t. missing-absent a b q .0 (member-means q _ .0 t))
+    (λ t. member-means q _ .1 (missing-absent a b q .1 t))
+
 -- the lowest of them stands above the zeros at the end, of which there are few
 pub trailing-fits : (a : ℕ) → trailingZeros 64 a < 2 ^ 8
 trailing-fits a = omega (arith, trailing-le 64 a)

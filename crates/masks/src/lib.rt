@@ -4,7 +4,7 @@ ghost use mathlib.Core.Bool.{false};
 ghost use mathlib.Core.Option.{some};
 ghost use Prim.Native.Nat.{_≤_, _<_};
 ghost use Rattle.lists.specs.Tests.{choose};
-ghost use Rattle.masks.specs.Sets.{subset as isSubset, member as isMember, within as isWithin};
+ghost use Rattle.masks.specs.Sets.{subset as isSubset, member as isMember, within as isWithin, absent as isAbsent};
 ghost use Rattle.masks.specs.Sets.{union, single, full as fullSet, lowestAbsent};
 
 // A state's number.
@@ -30,6 +30,14 @@ pub fn member(q: State, set: u64) -> bool
     ensures { λ r. ⌜ r ≡ isMember (q .0) set ⌝ }
 {
     set >> q.0 & 1 == 1
+}
+
+// Whether the state q is in a and absent from b.
+pub fn absent(q: State, a: u64, b: u64) -> bool
+    requires { ⌜ q .0 < 64 ⌝ }
+    ensures { λ r. ⌜ r ≡ isAbsent a b (q .0) ⌝ }
+{
+    member(q, a & b ^ a)
 }
 
 // The set with the state q put in.

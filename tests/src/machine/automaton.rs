@@ -63,4 +63,21 @@ impl<'a> Automaton<'a> {
         }
         set
     }
+
+    /// The union of the cases that the states pick, each that of the first row by the symbol which has a
+    /// subset of `inside`. Rows are walked until the last state has picked.
+    pub fn first_picks(&self, symbol: usize, case: u64, inside: u64) -> u64 {
+        let (mut to_pick, mut union) = (case, 0);
+        for &[state, ref row_case @ ..] in self.rows[symbol] {
+            if to_pick == 0 {
+                break;
+            }
+            let row_case = u64::from_le_bytes(*row_case);
+            if to_pick >> state & 1 == 1 && contains(inside, row_case) {
+                to_pick &= !(1 << state);
+                union |= row_case;
+            }
+        }
+        union
+    }
 }

@@ -1,5 +1,5 @@
 use borrow.Author.Needs.{needs}
-use Rattle.automata.proofs.WordTests.{TakenFrom, taken-none, symbol-known, taken-more, taken-end}
+use Rattle.automata.proofs.WordTests.{TakenFrom, taken-none, last-known, taken-more, taken-end}
 use Rattle.automata.proofs.word.taken_back.Statement.{statement}
 use Rattle.automata.proofs.word.taken_back.Tie as tie
 use Rattle.automata.proofs.word.taken_back.Reads as reads
@@ -22,7 +22,7 @@ shared-slice-read-t9 : tie.Need-shared-slice-read-t9 Inv-loop μ-loop
 shared-slice-read-t9 c = search needs
 
 backward-requires : tie.Need-backward-requires Inv-loop μ-loop
-backward-requires c κs = search (symbol-known, needs)
+backward-requires c κs = search (last-known, needs)
 
 loop-less : tie.Need-loop-less Inv-loop μ-loop
 loop-less c = search needs

@@ -1,4 +1,4 @@
-use Rattle.automata.proofs.WordTests.{answer-valid, word-symbols, test-refused, test-unknown, test-accepts, test-rejects}
+use Rattle.automata.proofs.WordTests.{word-of, test-refused, test-unknown, test-accepts, test-rejects}
 use borrow.Author.Needs.{needs}
 use Rattle.automata.proofs.word.word_test.Statement.{statement}
 use Rattle.automata.proofs.word.word_test.Tie as tie
@@ -28,7 +28,7 @@ returns : tie.Need-returns
 returns c = search (test-unknown, needs)
 
 taken-back-requires : tie.Need-taken-back-requires
-taken-back-requires c κs = (search (answer-valid, needs), search (word-symbols, needs))
+taken-back-requires c κs = search (word-of, needs)
 
 subset-requires : tie.Need-subset-requires
 subset-requires c κs = search needs

@@ -1,0 +1,16 @@
+use Rattle.masks.proofs.Laws.{missing-tested}
+use borrow.Author.Needs.{needs}
+use Rattle.masks.proofs.absent.Statement.{statement}
+use Rattle.masks.proofs.absent.Tie as tie
+use Rattle.masks.proofs.absent.Reads as reads
+use Rattle.masks.proofs.absent.Lts as lts
+use Rattle.masks.proofs.member.Reads as member-reads
+
+member-requires : tie.Need-member-requires
+member-requires c κs = search needs
+
+returns : tie.Need-returns
+returns c = search (missing-tested, needs)
+
+pub absent-spec : {M : Type 1} → statement M
+absent-spec = tie.close (tie.spec member-requires returns)

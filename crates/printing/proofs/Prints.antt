@@ -1,0 +1,99 @@
+-- The whole print, and the answer of each way through it. Assumes nothing.
+use Prim.Native.Nat.{ℕ, _≤_, _<_}
+use mathlib.Core.Path.{_≡_, sym, ap, subst, _∙_}
+use mathlib.Core.Bool.{Bool, true, false, not}
+use mathlib.Core.List.{List, _++_}
+use native.Mathlib.Omega.{arith}
+use borrow.Author.Tests.{not-true, not-false}
+use lib.Dec.{eqb, eqb→eq}
+use lib.ListN.{length}
+use lib.Seq.{sets}
+use Rattle.lists.proofs.Tests.{is-false, choose-true, choose-false}
+use Rattle.automata.specs.Automaton.{automatonOf}
+use Rattle.automata.specs.WordTest.{oneIf, accepts, WordOf, wordTest}
+use Rattle.automata.specs.Picks.{eventsOver, eventsOf}
+use Rattle.automata.specs.Answers.{headOf, readImage}
+use Rattle.automata.specs.declared.image.Head.{Head}
+use Rattle.automata.specs.declared.image.Image.{Image}
+use Rattle.automata.specs.declared.image.Image.the-variants as Read
+use Rattle.automata.proofs.WordTests.{word-of-tested, test-refused, refused-high}
+use Rattle.writing.specs.Rooms.{Answer, noBytes, placed}
+use Rattle.writing.proofs.Placing.{placed-fits, placed-short}
+use Rattle.printing.specs.Print.{startLine, eventLines, printOf, printRun}
+use Rattle.printing.specs.Steps.{casesOf, Ready}
+use Rattle.printing.specs.Putting.{eventsIn, Puts, PutsEvents}
+use Rattle.printing.proofs.Lines.{table-put, puts-joined}
+
+-- the whole print: the first line, and the events' lines behind it, by a table that is ready or without one
+module _ (image word : List ℕ) (head : Head) (eh : head ≡ headOf image) (limit start : ℕ) (before between after : List ℕ)
+    (es : start ≡ length (startLine (head .initial))) (eb : between ≡ sets before 0 (startLine (head .initial))) where
+  lines-put : (end : ℕ) → Puts (eventLines (eventsOver (automatonOf image) (head .finals) (head .initial) word)) start limit end between after
+      → Puts (printOf (automatonOf image) word) 0 limit end before after
+  unfolding printOf eventsOf
+  lines-put end p =
+      subst (λ (h : Head). Puts (startLine (h .initial) ++ eventLines (eventsOver (automatonOf image) (h .finals) (h .initial) word)) 0 limit end before after) eh
+      (puts-joined {a = startLine (head .initial)} (record { counted = omega (arith, es); written = λ h. eb }) p)
+
+  pub run-put : (end case : ℕ) → PutsEvents (eventsOver (automatonOf image) (head .finals) (head .initial) word) (head .initial) start limit end case between after
+      → Puts (printOf (automatonOf image) word) 0 limit end before after
+  run-put end case p = lines-put end (p .lines)
+
+  pub ready-put : (end : ℕ) (table : List ℕ) → Ready image word table → length word ≤ length table
+      → Puts (eventLines (eventsIn word table)) start limit end between after → Puts (printOf (automatonOf image) word) 0 limit end before after
+  unfolding eventsOf
+  ready-put end table ready l p =
+      lines-put end
+      (table-put image word (ready .rest) table (head .finals) (head .initial) start limit end between after
+      (ready .holds l ∙ ap (λ (h : Head). casesOf (eventsOver (automatonOf image) (h .finals) (h .initial) word) ++ ready .rest) (sym eh)) p)
+
+-- bytes that were counted, and then written if they fit
+module _ (bytes room : List ℕ) (size : ℕ) (before after : List ℕ) (counted : Puts bytes 0 (length room) size before after) where
+  pub print-short : length room < size → record { number = 35; written = 0; room = room } ≡ placed 1 bytes room
+  unfolding noBytes
+  print-short h = sym (placed-short 1 bytes room (omega (arith, counted .counted)))
+
+  pub print-fits : (again : ℕ) (room′ : List ℕ) → size ≤ length room → Puts bytes 0 (length room) again room room′
+      → record { number = 1; written = size; room = room′ } ≡ placed 1 bytes room
+  print-fits again room′ h p =
+      ap (λ (n : ℕ). record { number = 1; written = n; room = room′ }) long
+      ∙ placed-fits 1 bytes room room′ (omega (arith, long)) (p .written (omega (arith, p .counted, long)))
+    where
+      long : size ≡ length bytes
+      long = omega (arith, counted .counted)
+
+-- the word test's number where that is not 1, else what is placed
+module _ (image word room : List ℕ) where
+  pub not-printed : (wordTest image word ≡ 1 → ⊥) → printRun image word room ≡ noBytes (wordTest image word) room
+  unfolding printRun
+  not-printed f = choose-false (placed 1 (printOf (automatonOf image) word) room) (noBytes (wordTest image word) room) (is-false _ (λ t. f (eqb→eq _ _ t)))
+
+  pub is-printed : wordTest image word ≡ 1 → printRun image word room ≡ placed 1 (printOf (automatonOf image) word) room
+  unfolding printRun
+  is-printed e = choose-true (placed 1 (printOf (automatonOf image) word) room) (noBytes (wordTest image word) room) (ap (λ (n : ℕ). eqb n 1) e)
+
+  nothing-printed : (number : ℕ) → number ≡ wordTest image word → (number ≡ 1 → ⊥) → record { number = number; written = 0; room = room } ≡ printRun image word room
+  unfolding noBytes
+  nothing-printed number e f = ap (λ (n : ℕ). noBytes n room) e ∙ sym (not-printed (λ one. f (e ∙ one)))
+
+-- a word of the automaton's symbols: by whether it is accepted
+module _ (image word room : List ℕ) (known : WordOf image word) (accepted : Bool) (is-accepted : accepted ≡ accepts (automatonOf image) word) where
+  tested : wordTest image word ≡ oneIf accepted
+  tested = word-of-tested known ∙ ap oneIf (sym is-accepted)
+
+  pub print-rejected : not accepted ≡ true → record { number = 0; written = 0; room = room } ≡ printRun image word room
+  unfolding oneIf
+  print-rejected t = nothing-printed image word room 0 (sym (tested ∙ ap oneIf (not-true accepted t))) (λ e. omega arith)
+
+  pub print-accepted : (answer : Answer) → not accepted ≡ false → answer ≡ placed 1 (printOf (automatonOf image) word) room → answer ≡ printRun image word room
+  unfolding oneIf
+  print-accepted answer t e = e ∙ sym (is-printed image word room (tested ∙ ap oneIf (not-false accepted t)))
+
+-- an image that is refused, and a symbol of k or above
+module _ (image word room : List ℕ) where
+  pub print-refused : (answer : Image) (number : ℕ) → answer ≡ readImage image → answer ≡ Read.Refused number
+      → record { number = number; written = 0; room = room } ≡ printRun image word room
+  print-refused answer number read e =
+      nothing-printed image word room number (test-refused image word answer read number e) (λ one. omega (arith, refused-high image answer read number e))
+
+  pub print-unknown : 32 ≡ wordTest image word → record { number = 32; written = 0; room = room } ≡ printRun image word room
+  print-unknown e = nothing-printed image word room 32 e (λ one. omega arith)

@@ -1,0 +1,3 @@
+-- Laws that the proofs of functions cite here and above, by subject.
+pub mod Decimals
+pub mod Placing

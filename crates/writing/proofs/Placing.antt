@@ -1,0 +1,64 @@
+-- The laws of bytes in a room: in two parts, one byte, a number's digits; and the answer that bytes make which fit, or do not. Assumes nothing.
+use Prim.Native.Nat.{ℕ, suc, _+_, _/_, _%_, _^_, _≤_, _<_}
+use mathlib.Core.Path.{_≡_, sym, ap, _∙_}
+use mathlib.Core.List.{List, [], _∷_, _++_}
+use native.Mathlib.Nat.{zero-add, add-zero, add-suc, suc-add}
+use native.Mathlib.Omega.{arith}
+use borrow.Author.Tests.{le-leb, lt-leb}
+use lib.ListN.{length, drop, set}
+use lib.Seq.{sets, sets-eq, set-out}
+use Rattle.lists.proofs.Tests.{choose-true, choose-false}
+use Rattle.writing.specs.Decimal.{digits}
+use Rattle.writing.specs.Rooms.{noBytes, allBytes, placed}
+use Rattle.writing.proofs.Decimals.{digits-one, digits-more, length-digits-one, length-digits-more, twenty-digits}
+
+-- of bytes in two parts the second stands from the place behind the first
+pub sets-append : (l : List ℕ) (i : ℕ) (a b : List ℕ) → sets l i (a ++ b) ≡ sets (sets l i a) (i + length a) b
+sets-append l i [] b = rw add-zero
+sets-append l i (x ∷ a) b = rw (add-suc, ← suc-add) (sets-append (set l i x) (suc i) a b)
+
+-- a byte behind the room changes nothing
+pub byte-behind : (room : List ℕ) (at byte : ℕ) → length room ≤ at → room ≡ sets room at (byte ∷ [])
+byte-behind room at byte h = sym (set-out room at byte h)
+
+-- a number's digits from a place on: the only one, or the last behind those of the number divided by ten
+module _ (at number : ℕ) where
+  pub one-digit-place : number < 10 → at + 1 ≡ at + length (digits number)
+  one-digit-place one = omega (arith, length-digits-one number one)
+
+  pub one-digit-bytes : (room after : List ℕ) → number < 10 → after ≡ sets room at ((48 + number) ∷ []) → after ≡ sets room at (digits number)
+  one-digit-bytes room after one e = e ∙ sym (ap (sets room at) (digits-one number one))
+
+  module _ (next : ℕ) (ten : 10 ≤ number) (place : next ≡ at + length (digits (number / 10))) where
+    pub last-digit-place : next + 1 ≡ at + length (digits number)
+    last-digit-place = omega (arith, length-digits-more number ten)
+
+    pub last-digit-near : number < 2 ^ 64 → next + 1 ≤ at + 20
+    last-digit-near h = omega (arith, last-digit-place, twenty-digits number h)
+
+    pub last-digit-bytes : (room between after : List ℕ) → between ≡ sets room at (digits (number / 10))
+        → after ≡ sets between next ((48 + number % 10) ∷ []) → after ≡ sets room at (digits number)
+    last-digit-bytes room between after before last =
+        last
+        ∙ ap (λ (k : ℕ). sets between k ((48 + number % 10) ∷ [])) place
+        ∙ ap (λ (l : List ℕ). sets l (at + length (digits (number / 10))) ((48 + number % 10) ∷ [])) before
+        ∙ sym (sets-append room at (digits (number / 10)) ((48 + number % 10) ∷ []))
+        ∙ sym (ap (sets room at) (digits-more number ten))
+
+-- a room too short stays as it is
+pub placed-short : (success : ℕ) (bytes room : List ℕ) → length room < length bytes → placed success bytes room ≡ noBytes 35 room
+unfolding placed
+placed-short success bytes room h = choose-false _ _ (lt-leb _ _ h)
+
+-- bytes that fit are placed as a whole: they stand at the room's start, and their length is answered
+pub placed-whole : (success : ℕ) (bytes room : List ℕ) → length bytes ≤ length room → placed success bytes room ≡ allBytes success bytes room
+unfolding placed
+placed-whole success bytes room h = choose-true _ _ (le-leb _ _ h)
+
+pub placed-fits : (success : ℕ) (bytes room after : List ℕ) → length bytes ≤ length room → after ≡ sets room 0 bytes
+    → record { number = success; written = length bytes; room = after } ≡ placed success bytes room
+unfolding allBytes
+placed-fits success bytes room after h e =
+    ap (λ (l : List ℕ). record { number = success; written = length bytes; room = l })
+    (e ∙ sets-eq bytes room 0 (omega arith) ∙ ap (λ (k : ℕ). bytes ++ drop k room) (zero-add (length bytes)))
+    ∙ sym (placed-whole success bytes room h)
