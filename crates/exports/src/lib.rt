@@ -5,7 +5,7 @@ use blockers::reasons::Reason;
 ghost use mathlib.Core.Path.{_≡_};
 ghost use Rattle.automata.specs.Answers.{readImage, imageNumber, headAfter};
 ghost use Rattle.automata.specs.WordTest.{wordTest};
-ghost use Rattle.printing.specs.Print.{printRun};
+ghost use Rattle.machine.specs.Print.{printRun};
 ghost use Rattle.machine.specs.Lent.{roomOf, blockersIn};
 ghost use Rattle.machine.specs.Why.{why};
 ghost use Rattle.machine.specs.Runs.{runOf};

@@ -16,10 +16,10 @@ use Rattle.automata.specs.Picks.{eventsOf, FormRun, AllPick}
 use Rattle.automata.specs.Answers.{readImage, imageNumber, headAfter}
 use Rattle.writing.specs.Decimal.{digits, IsDecimal}
 use Rattle.writing.specs.Rooms.{Answer, noBytes, allBytes}
-use Rattle.printing.specs.Print.{printOf, printRun}
 use Rattle.machine.specs.Machine.{Blocker, Pending, Configuration, Rooms, Outcome, ends, begin, blocks, step, blocked}
 use Rattle.machine.specs.Meaning.{Closed, EnteredInOrder, WorksIn, EndedBy}
 use Rattle.machine.specs.Why.{Reason, byBlocker, byStart, nothing, why, FirstCovering, LowestAbsent}
+use Rattle.machine.specs.Print.{printOf, printRun}
 use Rattle.machine.specs.Lent.{blockersFrom, blockersIn, column, eachTable}
 use Rattle.machine.specs.Runs.{Lent, Terms, Result, systemOf, roomsOf, givenOf, endOf, resultOf, checkRun, runOf}
 

@@ -10,7 +10,7 @@ use Rattle.automata.specs.Automaton.{Automaton, automatonOf, takenBack}
 use Rattle.automata.specs.Picks.{reached, Event, eventsOver}
 use Rattle.writing.specs.Decimal.{digits}
 use Rattle.writing.proofs.Placing.{sets-append}
-use Rattle.printing.specs.Print.{startLine, eventLine, eventLines}
+use Rattle.machine.specs.Print.{startLine, eventLine, eventLines}
 use Rattle.printing.specs.Steps.{setsBehind, eventsBy, casesOf, caseAfter}
 use Rattle.printing.specs.Putting.{eventsIn, Puts, PutsEvents}
 use Rattle.printing.proofs.SetsBehind.{events-joined, behind, parts-joined}

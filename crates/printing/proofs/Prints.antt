@@ -5,10 +5,8 @@ use mathlib.Core.Bool.{Bool, true, false, not}
 use mathlib.Core.List.{List, _++_}
 use native.Mathlib.Omega.{arith}
 use borrow.Author.Tests.{not-true, not-false}
-use lib.Dec.{eqb, eqb→eq}
 use lib.ListN.{length}
 use lib.Seq.{sets}
-use Rattle.lists.proofs.Tests.{is-false, choose-true, choose-false}
 use Rattle.automata.specs.Automaton.{automatonOf}
 use Rattle.automata.specs.WordTest.{oneIf, accepts, WordOf, wordTest}
 use Rattle.automata.specs.Picks.{eventsOver, eventsOf}
@@ -19,7 +17,8 @@ use Rattle.automata.specs.declared.image.Image.the-variants as Read
 use Rattle.automata.proofs.WordTests.{word-of-tested, test-refused, refused-high}
 use Rattle.writing.specs.Rooms.{Answer, noBytes, placed}
 use Rattle.writing.proofs.Placing.{placed-fits, placed-short}
-use Rattle.printing.specs.Print.{startLine, eventLines, printOf, printRun}
+use Rattle.machine.specs.Print.{startLine, eventLines, printOf, printRun}
+use Rattle.machine.proofs.Printing.{not-printed, is-printed}
 use Rattle.printing.specs.Steps.{casesOf, Ready}
 use Rattle.printing.specs.Putting.{eventsIn, Puts, PutsEvents}
 use Rattle.printing.proofs.Lines.{table-put, puts-joined}
@@ -61,19 +60,11 @@ module _ (bytes room : List ℕ) (size : ℕ) (before after : List ℕ) (counted
       long : size ≡ length bytes
       long = omega (arith, counted .counted)
 
--- the word test's number where that is not 1, else what is placed
-module _ (image word room : List ℕ) where
-  pub not-printed : (wordTest image word ≡ 1 → ⊥) → printRun image word room ≡ noBytes (wordTest image word) room
-  unfolding printRun
-  not-printed f = choose-false (placed 1 (printOf (automatonOf image) word) room) (noBytes (wordTest image word) room) (is-false _ (λ t. f (eqb→eq _ _ t)))
-
-  pub is-printed : wordTest image word ≡ 1 → printRun image word room ≡ placed 1 (printOf (automatonOf image) word) room
-  unfolding printRun
-  is-printed e = choose-true (placed 1 (printOf (automatonOf image) word) room) (noBytes (wordTest image word) room) (ap (λ (n : ℕ). eqb n 1) e)
-
-  nothing-printed : (number : ℕ) → number ≡ wordTest image word → (number ≡ 1 → ⊥) → record { number = number; written = 0; room = room } ≡ printRun image word room
-  unfolding noBytes
-  nothing-printed number e f = ap (λ (n : ℕ). noBytes n room) e ∙ sym (not-printed (λ one. f (e ∙ one)))
+-- the word test's number where that is not 1
+nothing-printed : (image word room : List ℕ) (number : ℕ) → number ≡ wordTest image word → (number ≡ 1 → ⊥)
+    → record { number = number; written = 0; room = room } ≡ printRun image word room
+unfolding noBytes
+nothing-printed image word room number e f = ap (λ (n : ℕ). noBytes n room) e ∙ sym (not-printed image word room (λ one. f (e ∙ one)))
 
 -- a word of the automaton's symbols: by whether it is accepted
 module _ (image word room : List ℕ) (known : WordOf image word) (accepted : Bool) (is-accepted : accepted ≡ accepts (automatonOf image) word) where

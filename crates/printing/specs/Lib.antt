@@ -1,3 +1,2 @@
-pub mod Print
 pub mod Steps
 pub mod Putting

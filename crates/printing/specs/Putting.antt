@@ -5,7 +5,7 @@ use mathlib.Core.List.{List, [], _∷_}
 use lib.ListN.{length}
 use lib.Seq.{sets}
 use Rattle.automata.specs.Picks.{Event}
-use Rattle.printing.specs.Print.{eventLines}
+use Rattle.machine.specs.Print.{eventLines}
 use Rattle.printing.specs.Steps.{caseAfter}
 
 -- the events of a word whose cases stand in a table

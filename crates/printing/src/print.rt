@@ -20,7 +20,7 @@ ghost use Rattle.automata.specs.WordTest.{WordOf};
 ghost use Rattle.automata.specs.Picks.{eventsOver};
 ghost use Rattle.automata.specs.Answers.{headOf};
 ghost use Rattle.writing.specs.Rooms.{answerOf, placed};
-ghost use Rattle.printing.specs.Print.{startLine, eventLine, eventLines, printOf, printRun};
+ghost use Rattle.machine.specs.Print.{startLine, eventLine, eventLines, printOf, printRun};
 ghost use Rattle.printing.specs.Steps.{Ready};
 ghost use Rattle.printing.specs.Putting.{eventsIn, Puts, PutsEvents};
 
