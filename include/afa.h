@@ -39,7 +39,8 @@ uint64_t afa_accepts(const uint8_t *image, size_t image_len,
    number of bytes written; the bytes behind them stay. On any other number
    nothing is written and length has 0: the number under which the image is
    refused (20 to 27), 32 if a symbol is k or above, 0 if the word is not
-   accepted, 35 if the room is too short. A line has at most 24 bytes. */
+   accepted, 35 if the room is too short. A room of 21 bytes and 24 for each
+   event of the word is always long enough. */
 uint64_t afa_print_run(const uint8_t *image, size_t image_len,
                        const uint8_t *word, size_t word_len,
                        uint8_t *room, size_t room_len, uint64_t length[1]);

@@ -309,6 +309,28 @@ fn every_number_of_digits() {
     assert!(by_digits.iter().all(|&count| count > 20));
 }
 
+/// The longest lines that there are: the first of 21 bytes, the others of 24. A room of so many is never
+/// too short, and here one byte less is.
+#[test]
+fn the_longest_lines() {
+    let mut comparison = Comparison::default();
+    let mut model = Model::plain(64, 64, 0);
+    (model.initial, model.final_set) = (u64::MAX, u64::MAX);
+    model.rows[63] = (0..64)
+        .map(|state| Row {
+            state,
+            case: u64::MAX,
+        })
+        .collect();
+    for events in 0..=30 {
+        let print =
+            "18446744073709551615\n".to_string() + &"63 18446744073709551615\n".repeat(events);
+        assert_eq!(print.len(), 21 + 24 * events);
+        comparison.expect(&model.image(), &vec![63; events], Ok(&print));
+    }
+    println!("the longest lines: {}", comparison.seen);
+}
+
 /// Every symbol of every k up to 64, the first of two digits among them.
 #[test]
 fn every_symbol() {

@@ -1,5 +1,5 @@
 -- The picked run: a state of the backward set of Z has a row to pick, what a case so reaches lies inside Z, and the events of a word so picked are those of
--- a run by the definition. Assumes nothing.
+-- a run by the definition, with symbols and cases of the automaton. Assumes nothing.
 use Prim.Native.Nat.{ℕ, zero, suc, _<_}
 use mathlib.Core.Path.{_≡_, refl, sym, ap, subst, _∙_}
 use mathlib.Core.Bool.{Bool, true, false}
@@ -12,7 +12,7 @@ use lib.Dec.{T, eqb, eqb→eq, eqb-refl}
 use Rattle.lists.specs.Tests.{choose}
 use Rattle.lists.specs.Lists.{_∈_, here, there, Each, firstOf}
 use Rattle.lists.proofs.Tests.{is-true, and-left, and-right, and-both, choose-true}
-use Rattle.lists.proofs.Lists.{first-of-none, first-of-some, first-in}
+use Rattle.lists.proofs.Lists.{in-none, each-more, first-of-none, first-of-some, first-in}
 use Rattle.masks.specs.Sets.{Member, member, subset, union, within}
 use Rattle.masks.proofs.Laws.{member-means, subset-members, members-subset, empty-members, union-members, within-members, members-within}
 use Rattle.automata.specs.Image.{Row}
@@ -203,3 +203,14 @@ module _ (A : Automaton) (proper : Proper A) where
           all-pick s X B known small inside,
           all-picked word (λ t m. symbols t (there m)) (next s X B known small inside) (next-within s X B known small inside) (next-inside s X B known small inside),
         )
+
+    -- each event has a symbol of the automaton and a case of its states
+    pub events-known : (word : List ℕ) → Each (λ s. s < A .symbols) word → (X : ℕ) → T (within (A .states) X) → T (subset X (takenBack A word Z))
+        → Each (λ event. (event .symbol < A .symbols) × T (within (A .states) (event .case))) (eventsOver A Z X word)
+    unfolding takenBack eventsOver
+    events-known [] symbols X small inside = λ event m. absurd (in-none m)
+    events-known (s ∷ word) symbols X small inside =
+        let B = takenBack A word Z in
+        let known : s < A .symbols = symbols s (here refl) in
+        each-more (known, next-within s X B known small inside)
+        (events-known word (λ t m. symbols t (there m)) (next s X B known small inside) (next-within s X B known small inside) (next-inside s X B known small inside))

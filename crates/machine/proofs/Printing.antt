@@ -1,21 +1,31 @@
 -- The promises of the print of a word's run. Assumes nothing.
-use Prim.Native.Nat.{ℕ}
-use mathlib.Core.Path.{_≡_, ap, _∙_}
-use mathlib.Core.List.{List}
-use lib.Dec.{eqb, eqb→eq}
+use Prim.Native.Nat.{ℕ, suc, _+_, _*_, _^_, _≤_, _<_}
+use mathlib.Core.Path.{_≡_, refl, ap, _∙_}
+use mathlib.Core.List.{List, [], _∷_, _++_}
+use native.Mathlib.Nat.{lt-of-lt-of-le}
+use native.Mathlib.Omega.{arith}
+use lib.Dec.{T, eqb, eqb→eq}
+use lib.ListN.{length, length-append}
+use lib.Pow.{pow-mono}
+use Rattle.lists.specs.Lists.{here, there, Each}
 use Rattle.lists.proofs.Tests.{is-false, choose-true, choose-false}
-use Rattle.automata.specs.Image.{Valid, initialOf, finalOf}
-use Rattle.automata.specs.Automaton.{automatonOf}
+use Rattle.masks.specs.Sets.{subset, within}
+use Rattle.masks.proofs.Laws.{within-below}
+use Rattle.automata.specs.Image.{Valid, statesOf, symbolsOf, initialOf, finalOf}
+use Rattle.automata.specs.Automaton.{Automaton, automatonOf, takenBack}
 use Rattle.automata.specs.Acceptance.{Accepted}
 use Rattle.automata.specs.WordTest.{accepts, wordTest}
-use Rattle.automata.specs.Picks.{eventsOf, FormRun, AllPick}
-use Rattle.automata.proofs.ValidImage.{valid-proper}
-use Rattle.automata.proofs.PickedRuns.{picked-run, all-picked}
+use Rattle.automata.specs.Picks.{reached, Event, eventsOver, eventsOf, FormRun, AllPick}
+use Rattle.automata.proofs.ValidImage.{valid-kept, valid-proper}
+use Rattle.automata.proofs.PickedRuns.{picked-run, all-picked, events-known}
 use Rattle.automata.proofs.AcceptedWords.{accepted-means}
-use Rattle.writing.specs.Rooms.{noBytes, placed}
+use Rattle.writing.specs.Decimal.{digits}
+use Rattle.writing.specs.Rooms.{Answer, noBytes, allBytes, placed}
+use Rattle.writing.proofs.Decimals.{few-digits, twenty-digits}
 use Rattle.writing.proofs.Placing.{placed-whole, placed-short}
-use Rattle.machine.specs.Print.{printOf, printRun}
+use Rattle.machine.specs.Print.{startLine, eventLine, eventLines, printOf, printRun}
 use Rattle.machine.specs.Promises.{PrintPromises}
+use Rattle.machine.proofs.WordTests.{says-yes}
 
 -- the word test's number where that is not 1, else what is placed
 module _ (image word room : List ℕ) where
@@ -27,28 +37,84 @@ module _ (image word room : List ℕ) where
   unfolding printRun
   is-printed e = choose-true (placed 1 (printOf (automatonOf image) word) room) (noBytes (wordTest image word) room) (ap (λ (n : ℕ). eqb n 1) e)
 
+-- how long lines are: of a symbol below 100 and a case of 64 states at most 24 bytes, and the first at most 21
+start-short : (initial : ℕ) → initial < 2 ^ 64 → length (startLine initial) ≤ 21
+unfolding startLine
+start-short initial l = omega (arith, length-append (digits initial) (10 ∷ []), twenty-digits initial l)
+
+line-short : (event : Event) → event .symbol < 100 → event .case < 2 ^ 64 → length (eventLine event) ≤ 24
+unfolding eventLine
+line-short event s c =
+    omega (
+      arith,
+      length-append (digits (event .symbol)) (32 ∷ (digits (event .case) ++ (10 ∷ []))),
+      length-append (digits (event .case)) (10 ∷ []),
+      few-digits 1 (event .symbol) s,
+      twenty-digits (event .case) c,
+    )
+
+lines-short : (events : List Event) → Each (λ event. (event .symbol < 100) × (event .case < 2 ^ 64)) events → length (eventLines events) ≤ 24 * length events
+unfolding eventLines
+lines-short [] f = omega arith
+lines-short (event ∷ events) f =
+    omega (
+      arith,
+      length-append (eventLine event) (eventLines events),
+      line-short event (f event (here refl) .0) (f event (here refl) .1),
+      lines-short events (λ e m. f e (there m)),
+    )
+
+-- a word has as many events as symbols
+events-many : (A : Automaton) (Z X : ℕ) (word : List ℕ) → length (eventsOver A Z X word) ≡ length word
+unfolding eventsOver
+events-many A Z X [] = refl
+events-many A Z X (s ∷ word) = ap suc (events-many A Z (reached (A .states) (A .rows s) (takenBack A word Z) X) word)
+
 -- an accepted word's run, as it is picked
 module _ (image word : List ℕ) (valid : Valid image) (accepted : Accepted (automatonOf image) word) where
+  means : Each (λ s. s < symbolsOf image) word × T (subset (initialOf image) (takenBack (automatonOf image) word (finalOf image)))
+  unfolding accepts
+  means = accepted-means (automatonOf image) (valid-proper image valid) word .0 accepted
+
   run-formed : FormRun (automatonOf image) (finalOf image) (initialOf image) word (eventsOf (automatonOf image) word)
-  unfolding eventsOf accepts
+  unfolding eventsOf
   run-formed =
       let proper = valid-proper image valid in
-      let means = accepted-means (automatonOf image) proper word .0 accepted in
       picked-run (automatonOf image) proper (finalOf image) word (means .0) (initialOf image) (proper .initial-within) (means .1)
 
   rows-picked : AllPick (automatonOf image) (finalOf image) (initialOf image) word
-  unfolding accepts
   rows-picked =
       let proper = valid-proper image valid in
-      let means = accepted-means (automatonOf image) proper word .0 accepted in
       all-picked (automatonOf image) proper (finalOf image) word (means .0) (initialOf image) (proper .initial-within) (means .1)
 
+  -- a case of the automaton's states is a number of 64 bits
+  small-case : (case : ℕ) → T (within (statesOf image) case) → case < 2 ^ 64
+  small-case case t = lt-of-lt-of-le (within-below (statesOf image) case t) (pow-mono {i = statesOf image} {j = 64} (valid-kept image valid .states-fit))
+
+  print-length : length (printOf (automatonOf image) word) ≤ 21 + 24 * length word
+  unfolding printOf eventsOf
+  print-length =
+      let proper = valid-proper image valid in
+      let known = events-known (automatonOf image) proper (finalOf image) word (means .0) (initialOf image) (proper .initial-within) (means .1) in
+      let events = eventsOver (automatonOf image) (finalOf image) (initialOf image) word in
+      omega (
+        arith,
+        length-append (startLine (initialOf image)) (eventLines events),
+        start-short (initialOf image) (small-case (initialOf image) (proper .initial-within)),
+        lines-short events (λ event m. (omega (arith, known event m .0, valid-kept image valid .symbols-fit), small-case (event .case) (known event m .1))),
+        events-many (automatonOf image) (finalOf image) (initialOf image) word,
+      )
+
 pub prints-kept : (image word room : List ℕ) → PrintPromises image word room (printRun image word room)
+unfolding allBytes
 prints-kept image word room =
     record {
       word-test-first = not-printed image word room;
       too-short = λ e l. is-printed image word room e ∙ placed-short 1 _ room l;
       success = λ e l. is-printed image word room e ∙ placed-whole 1 _ room l;
+      room-enough = λ e l.
+          let yes = says-yes image word .0 e in
+          ap (λ (answer : Answer). answer .number) (is-printed image word room e ∙ placed-whole 1 _ room (omega (arith, print-length image word (yes .0) (yes .1))));
       form-run = run-formed image word;
       all-pick = rows-picked image word;
     }

@@ -1,6 +1,6 @@
 -- The promises: each sentence of the demands as one statement, over the definitions that the contracts cite. That all of them are kept is
 -- `Rattle.machine.proofs.Kept.kept`. Assumes nothing: these are statements.
-use Prim.Native.Nat.{ℕ, suc, _-_, _^_, _≤_, _<_, min}
+use Prim.Native.Nat.{ℕ, suc, _+_, _-_, _*_, _^_, _≤_, _<_, min}
 use mathlib.Core.Path.{_≡_}
 use mathlib.Core.List.{List, [], _∷_, _++_}
 use mathlib.Core.Logic.{_↔_, _⊎_}
@@ -129,6 +129,8 @@ pub record PrintPromises (image word room : List ℕ) (answer : Answer) : Type 0
   -- 01: "on success .. (for the print of a word's run, 1) with that length, the bytes past it staying"
   pub success : wordTest image word ≡ 1 → length (printOf (automatonOf image) word) ≤ length room
       → answer ≡ allBytes 1 (printOf (automatonOf image) word) room
+  -- (what a caller wants to know) the first line has at most 21 bytes and each other at most 24, so a room of so many is long enough
+  pub room-enough : wordTest image word ≡ 1 → 21 + 24 * length word ≤ length room → answer .number ≡ 1
   -- "Show that the lines form a run by the definition and end in a final case": from I, into F
   pub form-run : Valid image → Accepted (automatonOf image) word → FormRun (automatonOf image) (finalOf image) (initialOf image) word (eventsOf (automatonOf image) word)
   -- "each state picks the first row in image order whose case lies inside the backward set of what remains of the word": there is one

@@ -67,7 +67,7 @@ length-digits-more number ten = ap length (digits-more number ten) ∙ length-ap
 pub some-digits : (number : ℕ) → 0 < length (digits number)
 some-digits = by-digits (λ n. 0 < length (digits n)) (λ n one. omega (arith, length-digits-one n one)) (λ n ten some. omega (arith, length-digits-more n ten))
 
-few-digits : (k number : ℕ) → number < 10 ^ suc k → length (digits number) ≤ suc k
+pub few-digits : (k number : ℕ) → number < 10 ^ suc k → length (digits number) ≤ suc k
 few-digits zero number h = omega (arith, length-digits-one number (omega arith))
 few-digits (suc k) number h = at (decLt number 10) (λ l. few-digits k (number / 10) l)
   where
