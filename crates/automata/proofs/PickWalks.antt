@@ -70,11 +70,12 @@ module _ (set X : ℕ) where
   none-yet (row ∷ rows) so-far f =
       ap (λ (more : Picked). pickRows set X more rows) (take-no so-far row (is-false _ (λ t. f (row .state) (and-left _ _ t)))) ∙ none-yet rows so-far f
 
-  -- the states and the case after a row that is picked
   module _ (so-far : Picked) (row : Row) (rows : List Row) (p : ℕ) where
-    Before : List Row → Picked → Type 0
-    Before ahead now-picked = Member p (now-picked .case) ⊎ PicksYet ahead set X (now-picked .states) p
+    -- p is in a case that was picked, or in one that a state has yet to pick
+    ComesIn : List Row → Picked → Type 0
+    ComesIn ahead picked = Member p (picked .case) ⊎ PicksYet ahead set X (picked .states) p
 
+    -- a row that is picked: its state has picked then, and no other picks it
     module _ (t : T (taking so-far row)) where
       yet : T (absent X (so-far .states) (row .state))
       unfolding taking
@@ -103,11 +104,11 @@ module _ (set X : ℕ) where
           in-neither (inl m) f = f m
           in-neither (inr m) f = other (single-members (row .state) q .0 m)
 
-      to-taken : Before rows (after so-far row) → Before (row ∷ rows) so-far
-      unfolding Before
+      to-taken : ComesIn rows (after so-far row) → ComesIn (row ∷ rows) so-far
+      unfolding ComesIn
       to-taken (inl m) = at (union-members (so-far .case) (row .case) p .0 m)
         where
-          at : Member p (so-far .case) ⊎ Member p (row .case) → Before (row ∷ rows) so-far
+          at : Member p (so-far .case) ⊎ Member p (row .case) → ComesIn (row ∷ rows) so-far
           at (inl k) = inl k
           at (inr k) = inr (record { from = row .state; yet = yet; picks-to = record { row = row; picked = picks-here set (row .state) row rows its-own; to = k } })
       to-taken (inr r) =
@@ -118,12 +119,12 @@ module _ (set X : ℕ) where
             picks-to = record { row = r .picks-to .row; picked = others (r .from) (s .1) ∙ r .picks-to .picked; to = r .picks-to .to };
           })
 
-      from-taken : Before (row ∷ rows) so-far → Before rows (after so-far row)
-      unfolding Before
+      from-taken : ComesIn (row ∷ rows) so-far → ComesIn rows (after so-far row)
+      unfolding ComesIn
       from-taken (inl m) = inl (union-members (so-far .case) (row .case) p .1 (inl m))
       from-taken (inr r) = at (ℕ-discrete (r .from) (row .state))
         where
-          at : Dec (r .from ≡ row .state) → Before rows (after so-far row)
+          at : Dec (r .from ≡ row .state) → ComesIn rows (after so-far row)
           at (yes e) =
               let mine : picks (row ∷ rows) set (r .from) ≡ some row = picks-here set (r .from) row rows (subst (λ (q : ℕ). T (fits set q row)) (sym e) its-own) in
               let both : some (r .picks-to .row) ≡ some row = sym (r .picks-to .picked) ∙ mine in
@@ -144,14 +145,14 @@ module _ (set X : ℕ) where
           picks-later set q row rows
           (λ t. let l = fits-means set q row .0 t in f (and-both _ _ (subst (λ (x : ℕ). T (absent X (so-far .states) x)) (sym (l .state)) a) (l .inside)))
 
-      to-passed : Before rows so-far → Before (row ∷ rows) so-far
-      unfolding Before
+      to-passed : ComesIn rows so-far → ComesIn (row ∷ rows) so-far
+      unfolding ComesIn
       to-passed (inl m) = inl m
       to-passed (inr r) =
           inr (record { from = r .from; yet = r .yet; picks-to = record { row = r .picks-to .row; picked = passed-by (r .from) (r .yet) ∙ r .picks-to .picked; to = r .picks-to .to } })
 
-      from-passed : Before (row ∷ rows) so-far → Before rows so-far
-      unfolding Before
+      from-passed : ComesIn (row ∷ rows) so-far → ComesIn rows so-far
+      unfolding ComesIn
       from-passed (inl m) = inl m
       from-passed (inr r) =
           inr (record { from = r .from; yet = r .yet; picks-to = record { row = r .picks-to .row; picked = sym (passed-by (r .from) (r .yet)) ∙ r .picks-to .picked; to = r .picks-to .to } })
@@ -159,7 +160,7 @@ module _ (set X : ℕ) where
   -- the walk ends with what was picked before and what the states that have not picked pick among the rows
   walk-members : (rows : List Row) (so-far : Picked) (p : ℕ)
       → Member p (pickRows set X so-far rows .case) ↔ (Member p (so-far .case) ⊎ PicksYet rows set X (so-far .states) p)
-  unfolding pickRows Before
+  unfolding pickRows ComesIn
   walk-members [] so-far p = (λ m. inl m, from)
     where
       from : Member p (so-far .case) ⊎ PicksYet [] set X (so-far .states) p → Member p (so-far .case)

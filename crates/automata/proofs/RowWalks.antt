@@ -100,30 +100,30 @@ part-stands {image} {count} {at} before part stand l e =
         ∙ ap (λ (rest : List Row). rowsFrom image before at ++ rest) (rows-joined image part behind (at + 9 * before))
 
 -- a walk has come to the row at `at`
-module _ {image : List ℕ} {start end at : ℕ} (here : AtRow image start end at) where
+module _ {image : List ℕ} {start end at : ℕ} (at-row : AtRow image start end at) where
   -- the rows ahead are of the span
-  ahead : (count : ℕ) → at + 9 * count ≤ end → here .rows + count ≤ (end - start) / 9
-  ahead count l = omega (arith, here .place)
+  ahead : (count : ℕ) → at + 9 * count ≤ end → at-row .rows + count ≤ (end - start) / 9
+  ahead count l = omega (arith, at-row .place)
 
   span-stands : RowsStand image ((end - start) / 9) start
   span-stands =
       record {
-        inside = omega (arith, here .span .ordered, here .span .inside);
-        states = λ row m. let below = here .span .states row m in omega (arith, valid-kept image (here .span .valid) .states-fit);
+        inside = omega (arith, at-row .span .ordered, at-row .span .inside);
+        states = λ row m. let below = at-row .span .states row m in omega (arith, valid-kept image (at-row .span .valid) .states-fit);
       }
 
   stand : (count : ℕ) → at + 9 * count ≤ end → RowsStand image count at
-  stand count l = part-stands (here .rows) count span-stands (ahead count l) (here .place)
+  stand count l = part-stands (at-row .rows) count span-stands (ahead count l) (at-row .place)
 
   one-ahead : at < end → at + 9 * 1 ≤ end
-  one-ahead l = omega (arith, here .place, here .span .nines)
+  one-ahead l = omega (arith, at-row .place, at-row .span .nines)
 
   pub one-stands : at < end → RowsStand image 1 at
   one-stands l = stand 1 (one-ahead l)
 
   -- so many rows further
   further : (count : ℕ) → at + 9 * count ≤ end → AtRow image start end (at + 9 * count)
-  further count l = record { span = here .span; rows = here .rows + count; place = omega (arith, here .place); ordered = l }
+  further count l = record { span = at-row .span; rows = at-row .rows + count; place = omega (arith, at-row .place); ordered = l }
 
   pub one-further : at < end → AtRow image start end (at + 9)
   one-further l = further 1 (one-ahead l)
@@ -135,7 +135,7 @@ module _ {image : List ℕ} {start end at : ℕ} (here : AtRow image start end a
 
   pub none-ahead : end ≤ at → rowsBetween image at end ≡ []
   unfolding rowsFrom
-  none-ahead l = let e : (end - at) / 9 ≡ 0 = omega (arith, here .ordered) in rw e
+  none-ahead l = let e : (end - at) / 9 ≡ 0 = omega (arith, at-row .ordered) in rw e
 
 -- the walk for a backward set has come there
 module _ {image : List ℕ} {start end X at set : ℕ} (walk : Walking image start end X at set) where
