@@ -20,7 +20,7 @@ use Rattle.automata.specs.Walk.{rowsBetween, Span, AtRow, pickRow}
 use Rattle.automata.specs.Picks.{fits, picks, reached}
 use Rattle.automata.specs.declared.picks.Picked.{Picked}
 use Rattle.automata.proofs.RowWalks.{first-row, one-further, rows-ahead, none-ahead, span-rows}
-use Rattle.automata.proofs.PickedRuns.{fits-means, picked-row, PicksTo, reached-members}
+use Rattle.automata.proofs.PickedRuns.{fits-means, picked-row, same-row, PicksTo, picks-same, reached-members}
 
 -- what all rows give
 unfoldable pub pickRows : ℕ → ℕ → Picked → List Row → Picked
@@ -113,11 +113,7 @@ module _ (set X : ℕ) where
           at (inr k) = inr (record { from = row .state; yet = yet; picks-to = record { row = row; picked = picks-here set (row .state) row rows its-own; to = k } })
       to-taken (inr r) =
           let s = still (r .from) (r .yet) in
-          inr (record {
-            from = r .from;
-            yet = s .0;
-            picks-to = record { row = r .picks-to .row; picked = others (r .from) (s .1) ∙ r .picks-to .picked; to = r .picks-to .to };
-          })
+          inr (record { from = r .from; yet = s .0; picks-to = picks-same (others (r .from) (s .1)) (r .picks-to) })
 
       from-taken : ComesIn (row ∷ rows) so-far → ComesIn rows (after so-far row)
       unfolding ComesIn
@@ -127,15 +123,10 @@ module _ (set X : ℕ) where
           at : Dec (r .from ≡ row .state) → ComesIn rows (after so-far row)
           at (yes e) =
               let mine : picks (row ∷ rows) set (r .from) ≡ some row = picks-here set (r .from) row rows (subst (λ (q : ℕ). T (fits set q row)) (sym e) its-own) in
-              let both : some (r .picks-to .row) ≡ some row = sym (r .picks-to .picked) ∙ mine in
-              let same : r .picks-to .row ≡ row = cc in
+              let same : r .picks-to .row ≡ row = same-row (r .picks-to .picked) mine in
               inl (union-members (so-far .case) (row .case) p .1 (inr (subst (λ (x : Row). Member p (x .case)) same (r .picks-to .to))))
           at (no other) =
-              inr (record {
-                from = r .from;
-                yet = still-yet (r .from) (r .yet) other;
-                picks-to = record { row = r .picks-to .row; picked = sym (others (r .from) other) ∙ r .picks-to .picked; to = r .picks-to .to };
-              })
+              inr (record { from = r .from; yet = still-yet (r .from) (r .yet) other; picks-to = picks-same (sym (others (r .from) other)) (r .picks-to) })
 
     -- a row that is not picked fits no state that has not picked
     module _ (f : T (taking so-far row) → ⊥) where
@@ -148,14 +139,12 @@ module _ (set X : ℕ) where
       to-passed : ComesIn rows so-far → ComesIn (row ∷ rows) so-far
       unfolding ComesIn
       to-passed (inl m) = inl m
-      to-passed (inr r) =
-          inr (record { from = r .from; yet = r .yet; picks-to = record { row = r .picks-to .row; picked = passed-by (r .from) (r .yet) ∙ r .picks-to .picked; to = r .picks-to .to } })
+      to-passed (inr r) = inr (record { from = r .from; yet = r .yet; picks-to = picks-same (passed-by (r .from) (r .yet)) (r .picks-to) })
 
       from-passed : ComesIn (row ∷ rows) so-far → ComesIn rows so-far
       unfolding ComesIn
       from-passed (inl m) = inl m
-      from-passed (inr r) =
-          inr (record { from = r .from; yet = r .yet; picks-to = record { row = r .picks-to .row; picked = sym (passed-by (r .from) (r .yet)) ∙ r .picks-to .picked; to = r .picks-to .to } })
+      from-passed (inr r) = inr (record { from = r .from; yet = r .yet; picks-to = picks-same (sym (passed-by (r .from) (r .yet))) (r .picks-to) })
 
   -- the walk ends with what was picked before and what the states that have not picked pick among the rows
   walk-members : (rows : List Row) (so-far : Picked) (p : ℕ)
@@ -168,19 +157,20 @@ module _ (set X : ℕ) where
       from (inr r) = absurd (picks-nowhere set (r .from) (r .picks-to .picked))
   walk-members (row ∷ rows) so-far p = at (taking so-far row) refl (λ more. walk-members rows more p)
     where
+      through : (next : Picked) → pickRow set X so-far row ≡ next
+          → (Member p (pickRows set X next rows .case) ↔ (Member p (next .case) ⊎ PicksYet rows set X (next .states) p))
+          → ((Member p (next .case) ⊎ PicksYet rows set X (next .states) p) ↔ (Member p (so-far .case) ⊎ PicksYet (row ∷ rows) set X (so-far .states) p))
+          → Member p (pickRows set X (pickRow set X so-far row) rows .case) ↔ (Member p (so-far .case) ⊎ PicksYet (row ∷ rows) set X (so-far .states) p)
+      through next e rest same = (
+        λ m. same .0 (rest .0 (subst (λ (w : Picked). Member p (pickRows set X w rows .case)) e m)),
+        λ k. subst (λ (w : Picked). Member p (pickRows set X w rows .case)) (sym e) (rest .1 (same .1 k)),
+      )
+
       at : (b : Bool) → taking so-far row ≡ b
           → ((more : Picked) → Member p (pickRows set X more rows .case) ↔ (Member p (more .case) ⊎ PicksYet rows set X (more .states) p))
           → Member p (pickRows set X (pickRow set X so-far row) rows .case) ↔ (Member p (so-far .case) ⊎ PicksYet (row ∷ rows) set X (so-far .states) p)
-      at true e rec =
-          let back : pickRow set X so-far row ≡ after so-far row = take-yes so-far row e in (
-            λ m. to-taken so-far row rows p (holds e) (rec (after so-far row) .0 (subst (λ (w : Picked). Member p (pickRows set X w rows .case)) back m)),
-            λ s. subst (λ (w : Picked). Member p (pickRows set X w rows .case)) (sym back) (rec (after so-far row) .1 (from-taken so-far row rows p (holds e) s)),
-          )
-      at false e rec =
-          let back : pickRow set X so-far row ≡ so-far = take-no so-far row e in (
-            λ m. to-passed so-far row rows p (fails e) (rec so-far .0 (subst (λ (w : Picked). Member p (pickRows set X w rows .case)) back m)),
-            λ s. subst (λ (w : Picked). Member p (pickRows set X w rows .case)) (sym back) (rec so-far .1 (from-passed so-far row rows p (fails e) s)),
-          )
+      at true e rec = through (after so-far row) (take-yes so-far row e) (rec (after so-far row)) (to-taken so-far row rows p (holds e), from-taken so-far row rows p (holds e))
+      at false e rec = through so-far (take-no so-far row e) (rec so-far) (to-passed so-far row rows p (fails e), from-passed so-far row rows p (fails e))
 
   -- so from the first row on it ends with the case that X reaches, where the rows' states are below n
   walk-reaches : (n : ℕ) (rows : List Row) → Each (λ row. row .state < n) rows

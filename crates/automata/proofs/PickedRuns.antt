@@ -44,7 +44,7 @@ fits-means set q row = (
 )
 
 -- a state that has such a row picks one, and the picked row is such a row
-pub picks-one : (rows : List Row) (set q : ℕ) → HasRow rows q set → HasPick rows set q
+picks-one : (rows : List Row) (set q : ℕ) → HasRow rows q set → HasPick rows set q
 unfolding picks
 picks-one rows set q h = at (firstOf (fits set q) rows) refl
   where
@@ -58,7 +58,7 @@ picked-row rows set q row e =
     let first = first-of-some (fits set q) rows e in
     (first-in first, fits-means set q row .0 (first .passes))
 
-same-row : {found : Option Row} {row other : Row} → found ≡ some row → found ≡ some other → row ≡ other
+pub same-row : {found : Option Row} {row other : Row} → found ≡ some row → found ≡ some other → row ≡ other
 same-row {found} {row} {other} a b = let e : some row ≡ some other = sym a ∙ b in cc
 
 -- the states of a union of sets
@@ -89,6 +89,10 @@ pub record PicksTo (rows : List Row) (set p q : ℕ) : Type 0 where
   pub row : Row
   pub picked : picks rows set q ≡ some row
   pub to : Member p (row .case)
+
+-- where other rows give q the same pick, so does it there
+pub picks-same : {rows others : List Row} {set p q : ℕ} → picks others set q ≡ picks rows set q → PicksTo rows set p q → PicksTo others set p q
+picks-same e r = record { row = r .row; picked = e ∙ r .picked; to = r .to }
 
 adds-members : (rows : List Row) (set X q p : ℕ) → Member p (adds rows set X q) ↔ (Member q X × PicksTo rows set p q)
 unfolding adds caseOf choose

@@ -1,18 +1,20 @@
 -- What an image that no check refuses keeps: its sizes, its spans, its rows, and the automaton that it holds. Assumes nothing.
-use Prim.Native.Nat.{ℕ, zero, suc, _+_, _-_, _*_, _/_, _%_, _≤_, _<_}
+use Prim.Native.Nat.{ℕ, zero, suc, _+_, _-_, _*_, _/_, _%_, _^_, _≤_, _<_}
 use mathlib.Core.Path.{_≡_, refl, subst}
 use mathlib.Core.Bool.{Bool, true, false}
 use mathlib.Core.List.{List, []}
-use native.Mathlib.Nat.{le-of-eq}
+use native.Mathlib.Nat.{le-of-eq, lt-of-lt-of-le}
 use native.Mathlib.Omega.{arith}
 use lib.Dec.{T, eqb, ltb, eqb→eq, ltb→lt}
 use borrow.Author.Tests.{eqb-false, ltb-false, lt-ltb, le-ltb}
 use lib.ListN.{length}
+use lib.Pow.{pow-mono}
 use Rattle.lists.specs.Tests.{_and_, _or_}
 use Rattle.lists.specs.Lists.{_∈_, Each}
 use Rattle.lists.proofs.Tests.{is-false, and-left, and-right, or-left, or-right, neg-neg, choose-true, choose-false}
 use Rattle.lists.proofs.Lists.{in-none, each-more, each-from-at}
 use Rattle.masks.specs.Sets.{within}
+use Rattle.masks.proofs.Laws.{within-below}
 use Rattle.automata.specs.Image.{Row, Valid, statesOf, symbolsOf, rowCountOf, initialOf, finalOf, offsetOf, sizeOf}
 use Rattle.automata.specs.Image.{rowsStart, spanStart, pairHolds, pairsHold, rowAt, rowsFrom, rowsOf, rowHolds, rowsHold, outside, check, checkImage}
 use Rattle.automata.specs.Automaton.{Automaton, automatonOf}
@@ -156,6 +158,11 @@ module _ (image : List ℕ) (valid : Valid image) where
         let e = span-begins s symbol in
         rw (rows-of-symbol image s symbol)
         (rows-kept (sizeOf image s / 9) (offsetOf image s) (omega arith) (omega arith) (omega (arith, span-in)))
+
+-- a case of its states is a number of 64 bits
+pub case-narrow : (image : List ℕ) → Valid image → (case : ℕ) → T (within (statesOf image) case) → case < 2 ^ 64
+case-narrow image valid case t =
+    lt-of-lt-of-le (within-below (statesOf image) case t) (pow-mono {i = statesOf image} {j = 64} (valid-kept image valid .states-fit))
 
 -- what the checks leave of the automaton that an image holds
 pub record Proper (A : Automaton) : Type 0 where

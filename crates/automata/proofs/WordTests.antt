@@ -94,13 +94,18 @@ module _ (image : List ℕ) (answer : Image) (read : answer ≡ readImage image)
   unfolding readImage
   answer-head = is-valid image (checkImage image) head (sym read ∙ e) .1
 
--- a word of the automaton's symbols is told by whether F, taken back by them, contains I
+-- the word test on a valid image, and of a word of its symbols: whether F, taken back by them, contains I
+pub valid-tested : (image word : List ℕ) → Valid image
+    → wordTest image word ≡ check (neg (known (symbolsOf image) word)) 32 (oneIf (accepts (automatonOf image) word))
+unfolding wordTest testWord
+valid-tested image word valid = rw valid
+
 pub word-of-tested : {image word : List ℕ} → WordOf image word → wordTest image word ≡ oneIf (accepts (automatonOf image) word)
-unfolding wordTest testWord known check neg
+unfolding known check neg
 word-of-tested {image} {word} known =
     let below : all (λ s. ltb s (symbolsOf image)) word ≡ true
     = is-true _ (each-all (λ s. ltb s (symbolsOf image)) word (λ s m. lt→ltb s (symbolsOf image) (known .symbols s m))) in
-    rw (known .valid, below)
+    valid-tested image word (known .valid) ∙ rw below
 
 -- no image is refused under 0 or 1
 pub refused-high : (image : List ℕ) (answer : Image) → answer ≡ readImage image → (number : ℕ) → answer ≡ Answer.Refused number → 20 ≤ number
@@ -126,8 +131,7 @@ module _ (image word : List ℕ) (answer : Image) (read : answer ≡ readImage i
     head-symbols = ap (λ (h : Head). h .symbols) (answer-head image answer read head e)
 
     tested : wordTest image word ≡ check (neg below) 32 (oneIf (accepts (automatonOf image) word))
-    unfolding wordTest testWord
-    tested = rw (answer-valid image answer read head e, all-below, head-symbols)
+    tested = valid-tested image word (answer-valid image answer read head e) ∙ rw (all-below, head-symbols)
 
     pub test-unknown : not below ≡ true → 32 ≡ wordTest image word
     unfolding check neg

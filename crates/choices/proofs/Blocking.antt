@@ -3,14 +3,11 @@ use Prim.Native.Nat.{ℕ, _^_, _≤_, _<_}
 use mathlib.Core.Path.{_≡_, sym, ap, _∙_}
 use mathlib.Core.Bool.{Bool, true, false}
 use mathlib.Core.List.{List}
-use native.Mathlib.Nat.{lt-of-lt-of-le}
-use lib.Pow.{pow-mono}
 use Rattle.lists.specs.Tests.{_or_}
 use Rattle.masks.specs.Sets.{subset}
-use Rattle.masks.proofs.Laws.{within-below}
 use Rattle.automata.specs.Image.{statesOf, symbolsOf, initialOf}
 use Rattle.automata.specs.declared.image.Head.{Head}
-use Rattle.automata.proofs.ValidImage.{valid-kept}
+use Rattle.automata.proofs.ValidImage.{valid-kept, case-narrow}
 use Rattle.machine.specs.Machine.{Blocker, settled}
 use Rattle.machine.specs.Why.{why, isReason}
 use Rattle.blockers.specs.Answers.{reasonOf}
@@ -39,9 +36,7 @@ module _ {image : List ℕ} {head : Head} (read : ReadAs image head) where
   head-initial = ap (λ (h : Head). h .initial) (read .read)
 
   pub initial-narrow : head .initial < 2 ^ 64
-  initial-narrow =
-      let proper = valid-kept image (read .valid) in
-      rw head-initial (lt-of-lt-of-le (within-below (statesOf image) (initialOf image) (proper .initial-within)) (pow-mono (proper .states-fit)))
+  initial-narrow = rw head-initial (case-narrow image (read .valid) (initialOf image) (valid-kept image (read .valid) .initial-within))
 
   pub states-fit : head .states ≤ 64
   states-fit = rw head-states (valid-kept image (read .valid) .states-fit)

@@ -2,21 +2,18 @@
 use Prim.Native.Nat.{ℕ, suc, _+_, _*_, _^_, _≤_, _<_}
 use mathlib.Core.Path.{_≡_, refl, ap, _∙_}
 use mathlib.Core.List.{List, [], _∷_, _++_}
-use native.Mathlib.Nat.{lt-of-lt-of-le}
 use native.Mathlib.Omega.{arith}
 use lib.Dec.{T, eqb, eqb→eq}
 use lib.ListN.{length, length-append}
-use lib.Pow.{pow-mono}
 use Rattle.lists.specs.Lists.{here, there, Each}
 use Rattle.lists.proofs.Tests.{is-false, choose-true, choose-false}
-use Rattle.masks.specs.Sets.{subset, within}
-use Rattle.masks.proofs.Laws.{within-below}
-use Rattle.automata.specs.Image.{Valid, statesOf, symbolsOf, initialOf, finalOf}
+use Rattle.masks.specs.Sets.{subset}
+use Rattle.automata.specs.Image.{Valid, symbolsOf, initialOf, finalOf}
 use Rattle.automata.specs.Automaton.{Automaton, automatonOf, takenBack}
 use Rattle.automata.specs.Acceptance.{Accepted}
 use Rattle.automata.specs.WordTest.{accepts, wordTest}
 use Rattle.automata.specs.Picks.{reached, Event, eventsOver, eventsOf, FormRun, AllPick}
-use Rattle.automata.proofs.ValidImage.{valid-kept, valid-proper}
+use Rattle.automata.proofs.ValidImage.{valid-kept, case-narrow, valid-proper}
 use Rattle.automata.proofs.PickedRuns.{picked-run, all-picked, events-known}
 use Rattle.automata.proofs.AcceptedWords.{accepted-means}
 use Rattle.writing.specs.Decimal.{digits}
@@ -87,10 +84,6 @@ module _ (image word : List ℕ) (valid : Valid image) (accepted : Accepted (aut
       let proper = valid-proper image valid in
       all-picked (automatonOf image) proper (finalOf image) word (means .0) (initialOf image) (proper .initial-within) (means .1)
 
-  -- a case of the automaton's states is a number of 64 bits
-  small-case : (case : ℕ) → T (within (statesOf image) case) → case < 2 ^ 64
-  small-case case t = lt-of-lt-of-le (within-below (statesOf image) case t) (pow-mono {i = statesOf image} {j = 64} (valid-kept image valid .states-fit))
-
   print-length : length (printOf (automatonOf image) word) ≤ 21 + 24 * length word
   unfolding printOf eventsOf
   print-length =
@@ -100,8 +93,9 @@ module _ (image word : List ℕ) (valid : Valid image) (accepted : Accepted (aut
       omega (
         arith,
         length-append (startLine (initialOf image)) (eventLines events),
-        start-short (initialOf image) (small-case (initialOf image) (proper .initial-within)),
-        lines-short events (λ event m. (omega (arith, known event m .0, valid-kept image valid .symbols-fit), small-case (event .case) (known event m .1))),
+        start-short (initialOf image) (case-narrow image valid (initialOf image) (proper .initial-within)),
+        lines-short events
+            (λ event m. (omega (arith, known event m .0, valid-kept image valid .symbols-fit), case-narrow image valid (event .case) (known event m .1))),
         events-many (automatonOf image) (finalOf image) (initialOf image) word,
       )
 

@@ -18,6 +18,7 @@ use Rattle.automata.specs.WordTest.{oneIf, accepts, known, testWord, wordTest}
 use Rattle.automata.proofs.Checks.{check-number}
 use Rattle.automata.proofs.BackwardSets.{taken-back-same}
 use Rattle.automata.proofs.ValidImage.{valid-proper}
+use Rattle.automata.proofs.WordTests.{valid-tested, word-of-tested}
 use Rattle.automata.proofs.AcceptedWords.{accepted-means}
 use Rattle.machine.specs.Promises.{HasUnknown}
 
@@ -43,10 +44,6 @@ module _ (image word : List ℕ) where
       refused (w ∙ sym e) (λ v. let z : suc number ≡ 0 = sym e ∙ v in omega arith) (omega arith) (omega arith)
 
   module _ (valid : Valid image) where
-    tested : wordTest image word ≡ check (neg (known (symbolsOf image) word)) 32 (oneIf (accepts (automatonOf image) word))
-    unfolding wordTest testWord
-    tested = rw valid
-
     means : Accepted (automatonOf image) word ↔ (Each (λ s. s < symbolsOf image) word × T (accepts (automatonOf image) word))
     means = accepted-means (automatonOf image) (valid-proper image valid) word
 
@@ -60,15 +57,18 @@ module _ (image word : List ℕ) where
             let above : symbolsOf image ≤ u .element = ltb-false _ _ (is-false _ (u .fails)) in
             let none : all (λ s. ltb s (symbolsOf image)) word ≡ false
             = is-false _ (λ t. u .fails (all-each (λ s. ltb s (symbolsOf image)) word t (u .element) (u .listed))) in
-            unknown (tested ∙ rw none) valid (record { symbol = u .element; listed = u .listed; above = above })
+            unknown (valid-tested image word valid ∙ rw none) valid (record { symbol = u .element; listed = u .listed; above = above })
         at (inl t) d = answer d
           where
             symbols : Each (λ s. s < symbolsOf image) word
             symbols s m = ltb→lt _ _ (all-each (λ s. ltb s (symbolsOf image)) word t s m)
 
+            told : wordTest image word ≡ oneIf (accepts (automatonOf image) word)
+            told = word-of-tested (record { valid = valid; symbols = symbols })
+
             answer : T (accepts (automatonOf image) word) ⊎ (T (accepts (automatonOf image) word) → ⊥) → Tested image word (wordTest image word)
-            answer (inl a) = yes-word (tested ∙ rw (is-true (all (λ s. ltb s (symbolsOf image)) word) t, is-true (accepts (automatonOf image) word) a)) valid (means .1 (symbols, a))
-            answer (inr n) = no-word (tested ∙ rw (is-true (all (λ s. ltb s (symbolsOf image)) word) t, is-false (accepts (automatonOf image) word) n)) valid symbols (λ a. n (means .0 a .1))
+            answer (inl a) = yes-word (told ∙ ap oneIf (is-true (accepts (automatonOf image) word) a)) valid (means .1 (symbols, a))
+            answer (inr n) = no-word (told ∙ ap oneIf (is-false (accepts (automatonOf image) word) n)) valid symbols (λ a. n (means .0 a .1))
 
   test-means : Tested image word (wordTest image word)
   test-means = at (check-number image)
@@ -140,7 +140,8 @@ same-accepts A B same word symbols = rw (taken-back-same A B same word symbols (
 
 pub same-answer : (image other word : List ℕ) → Valid image → Valid other → HoldOne image other → wordTest image word ≡ wordTest other word
 unfolding known check neg
-same-answer image other word valid valid′ same = tested image word valid ∙ at (decide (all (λ s. ltb s (symbolsOf image)) word)) ∙ sym (tested other word valid′)
+same-answer image other word valid valid′ same =
+    valid-tested image word valid ∙ at (decide (all (λ s. ltb s (symbolsOf image)) word)) ∙ sym (valid-tested other word valid′)
   where
     at : T (all (λ s. ltb s (symbolsOf image)) word) ⊎ (T (all (λ s. ltb s (symbolsOf image)) word) → ⊥)
         → check (neg (known (symbolsOf image) word)) 32 (oneIf (accepts (automatonOf image) word))

@@ -132,7 +132,8 @@ pub record PrintPromises (image word room : List ℕ) (answer : Answer) : Type 0
   -- (what a caller wants to know) the first line has at most 21 bytes and each other at most 24, so a room of so many is long enough
   pub room-enough : wordTest image word ≡ 1 → 21 + 24 * length word ≤ length room → answer .number ≡ 1
   -- "Show that the lines form a run by the definition and end in a final case": from I, into F
-  pub form-run : Valid image → Accepted (automatonOf image) word → FormRun (automatonOf image) (finalOf image) (initialOf image) word (eventsOf (automatonOf image) word)
+  pub form-run : Valid image → Accepted (automatonOf image) word
+      → FormRun (automatonOf image) (finalOf image) (initialOf image) word (eventsOf (automatonOf image) word)
   -- "each state picks the first row in image order whose case lies inside the backward set of what remains of the word": there is one
   pub all-pick : Valid image → Accepted (automatonOf image) word → AllPick (automatonOf image) (finalOf image) (initialOf image) word
 

@@ -9,17 +9,12 @@ use Rattle.lists.proofs.Lists.{drop-first}
 use Rattle.automata.specs.Automaton.{Automaton, automatonOf, takenBack}
 use Rattle.automata.specs.Picks.{reached, Event, eventsOver}
 use Rattle.writing.specs.Decimal.{digits}
-use Rattle.writing.proofs.Placing.{sets-append}
+use Rattle.writing.proofs.Placing.{written-behind}
 use Rattle.machine.specs.Print.{startLine, eventLine, eventLines}
 use Rattle.printing.specs.Steps.{setsBehind, eventsBy, casesOf, caseAfter}
 use Rattle.printing.specs.Putting.{eventsIn, Puts, PutsEvents}
 use Rattle.printing.proofs.SetsBehind.{events-joined, behind, parts-joined}
 use Rattle.printing.proofs.Stepping.{filled-events}
-
--- bytes written behind others
-written-behind : (l m r a b : List ℕ) (at end : ℕ) → m ≡ sets l at a → end ≡ at + length a → r ≡ sets m end b → r ≡ sets l at (a ++ b)
-written-behind l m r a b at end em ee er =
-    er ∙ ap (λ (k : ℕ). sets m k b) ee ∙ ap (λ (x : List ℕ). sets x (at + length a) b) em ∙ sym (sets-append l at a b)
 
 -- the first line
 module _ (n end : ℕ) (e : end ≡ 0 + length (digits n)) where

@@ -4,9 +4,9 @@ use mathlib.Core.Path.{_≡_, refl, sym, ap, subst, _∙_}
 use mathlib.Core.List.{List, [], _∷_, _++_}
 use native.Mathlib.Omega.{arith}
 use lib.ListN.{length, getD, take, drop, set, take-append-drop, length-drop, length-take}
-use lib.Seq.{take-all, drop-length, drop-at, length-take-le, set-split}
+use lib.Seq.{take-all, drop-length, drop-cons, drop-at, length-take-le, set-split}
 use Rattle.lists.specs.Lists.{_∈_}
-use Rattle.lists.proofs.Lists.{in-right, in-taken, drop-first}
+use Rattle.lists.proofs.Lists.{in-right, in-taken}
 use Rattle.automata.specs.Image.{symbolsOf, rowsOf}
 use Rattle.automata.specs.Automaton.{Automaton, automatonOf, backward, takenBack}
 use Rattle.automata.specs.WordTest.{WordOf}
@@ -59,9 +59,7 @@ module _ {image word : List ℕ} {z : ℕ} {before table : List ℕ} {case i : �
       again = omega arith
 
       parts : drop (i - 1) word ≡ getD word (i - 1) 0 ∷ drop i word
-      parts =
-          let next : i - 1 + 1 ≡ i = omega arith in
-          drop-first word (i - 1) (omega (arith, filling .taken .bound)) ∙ ap (λ (j : ℕ). getD word (i - 1) 0 ∷ drop j word) next
+      parts = drop-cons word (i - 1) 0 (omega (arith, filling .taken .bound)) ∙ ap (λ (j : ℕ). getD word (i - 1) 0 ∷ drop j word) again
 
   pub filling-long : length table ≡ length before
   filling-long = filling .long
@@ -94,7 +92,7 @@ module _ (A : Automaton) (Z : ℕ) where
   events-joined X [] b = refl
   events-joined X (s ∷ a) b =
       let Y = reached (A .states) (A .rows s) (takenBack A a (takenBack A b Z)) X in
-      ap (λ (set : ℕ). record { symbol = s; case = reached (A .states) (A .rows s) set X } ∷ eventsOver A Z (reached (A .states) (A .rows s) set X) (a ++ b)) (taken-back-joined a b)
+      ap (λ (set : ℕ). let Y = reached (A .states) (A .rows s) set X in record { symbol = s; case = Y } ∷ eventsOver A Z Y (a ++ b)) (taken-back-joined a b)
       ∙ ap (λ (events : List Event). record { symbol = s; case = Y } ∷ events) (events-joined Y a b)
 
 -- a word's first symbols and those behind them, as the code lends them

@@ -64,7 +64,7 @@ length-digits-one number one = ap length (digits-one number one)
 pub length-digits-more : (number : ℕ) → 10 ≤ number → length (digits number) ≡ length (digits (number / 10)) + 1
 length-digits-more number ten = ap length (digits-more number ten) ∙ length-append (digits (number / 10)) ((48 + number % 10) ∷ [])
 
-pub some-digits : (number : ℕ) → 0 < length (digits number)
+some-digits : (number : ℕ) → 0 < length (digits number)
 some-digits = by-digits (λ n. 0 < length (digits n)) (λ n one. omega (arith, length-digits-one n one)) (λ n ten some. omega (arith, length-digits-more n ten))
 
 pub few-digits : (k number : ℕ) → number < 10 ^ suc k → length (digits number) ≤ suc k

@@ -13,9 +13,14 @@ use Rattle.writing.specs.Rooms.{noBytes, allBytes, placed}
 use Rattle.writing.proofs.Decimals.{digits-one, digits-more, length-digits-one, length-digits-more, twenty-digits}
 
 -- of bytes in two parts the second stands from the place behind the first
-pub sets-append : (l : List ℕ) (i : ℕ) (a b : List ℕ) → sets l i (a ++ b) ≡ sets (sets l i a) (i + length a) b
+sets-append : (l : List ℕ) (i : ℕ) (a b : List ℕ) → sets l i (a ++ b) ≡ sets (sets l i a) (i + length a) b
 sets-append l i [] b = rw add-zero
 sets-append l i (x ∷ a) b = rw (add-suc, ← suc-add) (sets-append (set l i x) (suc i) a b)
+
+-- so bytes written behind others are written with them
+pub written-behind : (l m r a b : List ℕ) (at end : ℕ) → m ≡ sets l at a → end ≡ at + length a → r ≡ sets m end b → r ≡ sets l at (a ++ b)
+written-behind l m r a b at end em ee er =
+    er ∙ ap (λ (k : ℕ). sets m k b) ee ∙ ap (λ (x : List ℕ). sets x (at + length a) b) em ∙ sym (sets-append l at a b)
 
 -- a byte behind the room changes nothing
 pub byte-behind : (room : List ℕ) (at byte : ℕ) → length room ≤ at → room ≡ sets room at (byte ∷ [])
@@ -36,13 +41,13 @@ module _ (at number : ℕ) where
     pub last-digit-near : number < 2 ^ 64 → next + 1 ≤ at + 20
     last-digit-near h = omega (arith, last-digit-place, twenty-digits number h)
 
+    pub last-digit-fits : number < 2 ^ 64 → at + 20 < 2 ^ 64 → next + 1 < 2 ^ 64
+    last-digit-fits h l = omega (arith, last-digit-near h)
+
     pub last-digit-bytes : (room between after : List ℕ) → between ≡ sets room at (digits (number / 10))
         → after ≡ sets between next ((48 + number % 10) ∷ []) → after ≡ sets room at (digits number)
     last-digit-bytes room between after before last =
-        last
-        ∙ ap (λ (k : ℕ). sets between k ((48 + number % 10) ∷ [])) place
-        ∙ ap (λ (l : List ℕ). sets l (at + length (digits (number / 10))) ((48 + number % 10) ∷ [])) before
-        ∙ sym (sets-append room at (digits (number / 10)) ((48 + number % 10) ∷ []))
+        written-behind room between after (digits (number / 10)) ((48 + number % 10) ∷ []) at next before place last
         ∙ sym (ap (sets room at) (digits-more number ten))
 
 -- a room too short stays as it is

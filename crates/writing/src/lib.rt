@@ -24,7 +24,7 @@ pub fn put_byte(room: &mut [u8], at: usize, byte: u8)
 
 // The number's digits from a place on; answers the place behind them. A number has at most 20.
 pub fn put_number(room: &mut [u8], at: usize, number: u64) -> usize
-    requires { ⌜ at + 32 < 2 ^ 64 ⌝ }
+    requires { ⌜ at + 20 < 2 ^ 64 ⌝ }
     ensures place { λ r. ⌜ r ≡ at + length (digits number) ⌝ }
     ensures near { λ r. ⌜ r ≤ at + 20 ⌝ }
     ensures bytes { λ r. ⌜ now (room .exit) ≡ sets (now (room .entry)) at (digits number) ⌝ }

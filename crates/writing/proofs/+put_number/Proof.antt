@@ -4,7 +4,7 @@ use native.Mathlib.Omega.{arith}
 use borrow.Author.Needs.{needs}
 use borrow.Fn.Kinds.{In}
 use borrow.Fn.PlainCycle.{Measures, is, falls, and}
-use Rattle.writing.proofs.Placing.{one-digit-place, one-digit-bytes, last-digit-place, last-digit-near, last-digit-bytes}
+use Rattle.writing.proofs.Placing.{one-digit-place, one-digit-bytes, last-digit-place, last-digit-near, last-digit-fits, last-digit-bytes}
 use Rattle.writing.proofs.put_byte.Reads as put-byte
 use Rattle.writing.proofs.put_number.Kinds as kinds
 use Rattle.writing.proofs.put_number.Reads as put-number
@@ -57,7 +57,7 @@ module _ (t : ℕ) where
   put-byte-requires-2 c κs = search needs
 
   add-result-2 : lts.Need-add-result-2 claims given put-number.Post
-  add-result-2 c = search needs
+  add-result-2 c = search (last-digit-fits, needs)
 
   same-length-2 : lts.Need-same-length-2 claims given put-number.Post
   same-length-2 c = search needs
