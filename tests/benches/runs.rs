@@ -2,11 +2,11 @@
 //! in Rust, as a table in Markdown: `cargo bench`, after the library was built as for the tests.
 //!
 //! Both sides go in one process and in turn, on the same image. Runs are lent rooms of 1,024 places
-//! that are cleared before each, and no hints; prints are lent a room of just their length, cleared too;
-//! clearing and comparing are not timed. Times are the processor's for this thread, so that what else
-//! the machine does counts little. The machine here has no table of when blockers entered. The numbers,
-//! all other tables and the prints are compared after each turn, and a difference ends the program with
-//! an error.
+//! that are cleared before each, and no hints, and have edition 1; prints are lent a room of just their
+//! length, cleared too; clearing and comparing are not timed. Times are the processor's for this thread,
+//! so that what else the machine does counts little. The machine here has no table of when blockers
+//! entered. The numbers, all other tables and the prints are compared after each turn, and a difference
+//! ends the program with an error.
 
 use afa_tests::afa;
 use afa_tests::generate::prints::{accept, fill_up, mixing};
@@ -14,7 +14,7 @@ use afa_tests::generate::runs::run_model_of;
 use afa_tests::image::{all_states, rings, Model, Row};
 use afa_tests::machine;
 use afa_tests::random::Random;
-use afa_tests::tables::{Answer, Tables};
+use afa_tests::tables::{Answer, Tables, Terms};
 use std::ffi::c_int;
 use std::hint::black_box;
 use std::process::ExitCode;
@@ -51,7 +51,7 @@ struct Subject {
 }
 
 enum Asked {
-    Run { allowance: u64 },
+    Run(Terms),
     Word(Vec<u8>),
     Print(Vec<u8>),
 }
@@ -105,7 +105,7 @@ fn subjects() -> Vec<Subject> {
     let rings = ring_sizes.map(|sizes| Subject {
         name: format!("rings {sizes:?}"),
         model: rings(sizes),
-        asked: Asked::Run { allowance: 1 << 22 },
+        asked: Asked::Run(Terms::plain(1 << 22)),
     });
     let runs = rings.into_iter().chain(random_subjects());
     let words = runs.chain(word_subjects());
@@ -122,9 +122,9 @@ fn random_subjects() -> Vec<Subject> {
         let mut random = Random::seeded(seed);
         let (states, symbols) = (random.within(24..=64), random.within(1..=8));
         let model = run_model_of(&mut random, states, symbols);
-        let allowance = 4_000;
+        let terms = Terms::plain(4_000);
         let mut tables = Tables::cleared(PLACES, PLACES);
-        let answer = machine::run_without_entered(&model.image(), tables.lend(), &[], allowance);
+        let answer = machine::run_without_entered(&model.image(), tables.lend(), terms.lend());
         let ended_so = &mut by_number[answer.number as usize];
         if answer.steps < 1_000 || *ended_so == 8 {
             continue;
@@ -134,7 +134,7 @@ fn random_subjects() -> Vec<Subject> {
         subjects.push(Subject {
             name: format!("seed {seed}: n {states}, k {symbols}, m {rows}"),
             model,
-            asked: Asked::Run { allowance },
+            asked: Asked::Run(terms),
         });
         if subjects.len() == 20 {
             break;
@@ -198,9 +198,9 @@ fn print_subjects() -> Vec<Subject> {
 /// The library's answer. That of a print has the length where that of a run has the steps.
 fn ask_library(image: &[u8], asked: &Asked, lent: &mut Lent) -> Answer {
     match asked {
-        Asked::Run { allowance } => {
+        Asked::Run(terms) => {
             let mut counts = [0; 4];
-            let number = afa::run::run(image, lent.tables.lend(), &[], *allowance, &mut counts);
+            let number = afa::run::run(image, lent.tables.lend(), terms.lend(), &mut counts);
             let [steps, level, blockers, hints_accepted] = counts;
             Answer::of_numbers([number, steps, level, blockers, hints_accepted])
         }
@@ -216,9 +216,7 @@ fn ask_library(image: &[u8], asked: &Asked, lent: &mut Lent) -> Answer {
 /// The same in Rust.
 fn ask_rust(image: &[u8], asked: &Asked, lent: &mut Lent) -> Answer {
     match asked {
-        Asked::Run { allowance } => {
-            machine::run_without_entered(image, lent.tables.lend(), &[], *allowance)
-        }
+        Asked::Run(terms) => machine::run_without_entered(image, lent.tables.lend(), terms.lend()),
         Asked::Word(word) => Answer::of_numbers([machine::accepts(image, word), 0, 0, 0, 0]),
         Asked::Print(word) => {
             let (number, length) = machine::print::print_run(image, word, &mut lent.room);
@@ -338,7 +336,7 @@ fn shown(asked: &Asked, answer: &Answer) -> String {
     match asked {
         Asked::Word(_) => format!("{number}"),
         Asked::Print(_) => format!("{number}, {} bytes", grouped(answer.steps as usize)),
-        Asked::Run { .. } => format!(
+        Asked::Run(_) => format!(
             "{number} {} {} {} {}",
             answer.steps, answer.level, answer.blockers, answer.hints_accepted
         ),

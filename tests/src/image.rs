@@ -59,6 +59,11 @@ impl Model {
         self.rows.iter().map(Vec::len).sum()
     }
 
+    /// Whether I is a subset of F, so that the empty word is accepted.
+    pub fn starts_final(&self) -> bool {
+        self.initial & !self.final_set == 0
+    }
+
     /// The image's bytes. Nothing is checked here beyond what the fields' widths demand, so that
     /// models out of range can be written too.
     pub fn image(&self) -> Vec<u8> {

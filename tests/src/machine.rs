@@ -4,7 +4,7 @@
 //! one step to the next.
 
 use crate::checks::check;
-use crate::tables::{Answer, Rooms};
+use crate::tables::{Answer, Rooms, Terms, EDITIONS};
 use automaton::{contains, Automaton};
 use blockers::Blockers;
 use entered::EnteredTable;
@@ -40,21 +40,20 @@ pub enum Event {
     Closed,
 }
 
-pub fn run(image: &[u8], rooms: Rooms, hints: &[u64], allowance: u64) -> Answer {
-    observed_run(image, rooms, hints, allowance, |_| {})
+pub fn run(image: &[u8], rooms: Rooms, terms: Terms<&[u64]>) -> Answer {
+    observed_run(image, rooms, terms, |_| {})
 }
 
 /// The run of a machine that has no table of when blockers entered. The one lent is left alone.
-pub fn run_without_entered(image: &[u8], rooms: Rooms, hints: &[u64], allowance: u64) -> Answer {
-    observed_run(image, rooms.without_entered(), hints, allowance, |_| {})
+pub fn run_without_entered(image: &[u8], rooms: Rooms, terms: Terms<&[u64]>) -> Answer {
+    observed_run(image, rooms.without_entered(), terms, |_| {})
 }
 
-/// A run on any bytes and in any rooms.
+/// A run on any bytes, in any rooms and on any terms.
 pub fn observed_run<Entered: EnteredTable>(
     image: &[u8],
     rooms: Rooms<Entered>,
-    hints: &[u64],
-    allowance: u64,
+    terms: Terms<&[u64]>,
     observe: impl FnMut(Event),
 ) -> Answer {
     let head = match check(image) {
@@ -67,15 +66,18 @@ pub fn observed_run<Entered: EnteredTable>(
     if odd_blocker_room || rooms.symbols.len() != word_room {
         return Answer::refused(30);
     }
-    if blocker_room.max(word_room).max(hints.len()) > MOST_PLACES {
+    if blocker_room.max(word_room).max(terms.hints.len()) > MOST_PLACES {
         return Answer::refused(31);
+    }
+    if !EDITIONS.contains(&terms.edition) {
+        return Answer::refused(36);
     }
     let mut machine = Machine {
         automaton: Automaton::new(image, &head),
         blockers: Blockers::new(rooms.masks, rooms.levels, rooms.entered),
         cases: rooms.cases,
         symbols: rooms.symbols,
-        hints,
+        terms,
         level: 0,
         open: false,
         pending: 0,
@@ -85,7 +87,7 @@ pub fn observed_run<Entered: EnteredTable>(
         word_length: 0,
         observe,
     };
-    let number = machine.work(allowance);
+    let number = machine.work();
     machine.finish(number)
 }
 
@@ -124,7 +126,7 @@ struct Machine<'a, Entered, Observe> {
     cases: &'a mut [u64],
     /// The symbol that led to each pending case, 0 for the first.
     symbols: &'a mut [u8],
-    hints: &'a [u64],
+    terms: Terms<&'a [u64]>,
     /// N.
     level: u32,
     open: bool,
@@ -141,13 +143,13 @@ impl<Entered: EnteredTable, Observe: FnMut(Event)> Machine<'_, Entered, Observe>
     /// "Start: if I is a subset of F, answer 1 with the empty word and 0 steps. Otherwise steps
     /// follow. Before each step the allowance is tested (2), then the room that the step needs
     /// (3 or 4). A pending case is worked on first; with none, an open N is closed; else a level is
-    /// opened."
-    fn work(&mut self, allowance: u64) -> u64 {
+    /// opened." Of the editions "1 answers as now, 2 answers such a start by 5".
+    fn work(&mut self) -> u64 {
         if contains(self.automaton.final_set, self.automaton.initial) {
-            return 1;
+            return if self.terms.edition == 2 { 5 } else { 1 };
         }
         loop {
-            if self.steps == allowance {
+            if self.steps == self.terms.allowance {
                 return 2;
             }
             let answer = if self.pending > 0 {
@@ -215,7 +217,7 @@ impl<Entered: EnteredTable, Observe: FnMut(Event)> Machine<'_, Entered, Observe>
     /// with level i; X is no longer pending. Room is judged after the leaving." It has entered at
     /// "the count of steps including the block that made it".
     fn block(&mut self, case: u64, level: u32) -> Option<u64> {
-        let hint = self.hints.get(self.blocks).copied();
+        let hint = self.terms.hints.get(self.blocks).copied();
         let hint = hint.filter(|&hint| self.passes(hint, case, level));
         let blocker = match hint {
             Some(hint) => hint,

@@ -1,5 +1,6 @@
 //! Emptiness by a search over all cases, breadth first from F backwards. It judges the verdicts of
-//! runs and the lengths of their words, and has only the model in common with the machine.
+//! runs in their edition and the lengths of their words, and has only the model in common with the
+//! machine.
 
 use crate::acceptance::{accepts_backwards, backward_set};
 use crate::image::Model;
@@ -52,25 +53,37 @@ pub fn is_closed(model: &Model, frame: &[u64]) -> bool {
         })
 }
 
-/// Whether an answer with a verdict is right and proves itself: by a word that is accepted and as
-/// long as the level says, or by a frame that is closed.
-pub fn proves_itself(model: &Model, answer: &Answer, after: &Tables) -> bool {
+/// Whether an answer with a verdict of the edition is right and proves itself: by a word that is
+/// accepted and as long as the level says, in edition 2 of one symbol or more; by a frame that is
+/// closed; or by the empty word, where 5 says that it is accepted.
+pub fn proves_itself(model: &Model, edition: u64, answer: &Answer, after: &Tables) -> bool {
     let held = answer.blockers as usize;
-    match answer.number {
-        0 => is_closed(model, &after.masks[..held]),
-        1 => accepts_backwards(model, &after.symbols[..answer.level as usize]),
-        _ => panic!("{answer:?} is no verdict"),
+    let word = || &after.symbols[..answer.level as usize];
+    match (edition, answer.number) {
+        (1 | 2, 0) => is_closed(model, &after.masks[..held]),
+        (1, 1) => accepts_backwards(model, word()),
+        (2, 1) => !word().is_empty() && accepts_backwards(model, word()),
+        (2, 5) => accepts_backwards(model, &[]),
+        _ => panic!("{answer:?} is no verdict of edition {edition}"),
     }
 }
 
-/// The verdict, its proof and the word's length by the search.
-pub fn assert_right(model: &Model, answer: &Answer, after: &Tables) {
-    let verdict = (answer.number == 1).then_some(answer.level as usize);
-    assert!(answer.is_verdict(), "{model}\n{answer:?} is no verdict");
-    assert_eq!(verdict, shortest_word(model), "{model}\n{answer:?}");
+/// The verdict of the edition, its proof and the word's length by the search.
+pub fn assert_right(model: &Model, edition: u64, answer: &Answer, after: &Tables) {
+    let (number, length) = match (edition, shortest_word(model)) {
+        (_, None) => (0, None),
+        (2, Some(0)) => (5, None),
+        (_, length) => (1, length),
+    };
+    let word_length = (answer.number == 1).then_some(answer.level as usize);
+    assert_eq!(
+        (answer.number, word_length),
+        (number, length),
+        "{model}, edition {edition}\n{answer:?}"
+    );
     assert!(
-        proves_itself(model, answer, after),
-        "{model}\n{answer:?}\nmasks {:?}\nsymbols {:?}",
+        proves_itself(model, edition, answer, after),
+        "{model}, edition {edition}\n{answer:?}\nmasks {:?}\nsymbols {:?}",
         after.masks,
         after.symbols
     );

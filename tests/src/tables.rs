@@ -1,4 +1,4 @@
-//! What a run is lent to write to, and the five numbers that it returns.
+//! What a run is lent, and the five numbers that it returns.
 
 use crate::random::Random;
 
@@ -106,12 +106,44 @@ pub struct Blocker {
     pub entered: u64,
 }
 
+/// The editions that there are.
+pub const EDITIONS: [u64; 2] = [1, 2];
+
+/// The terms of a run: hints, which it only reads, how many steps it may make, and by which edition a
+/// final start is answered. The hints are owned, or a slice where they are lent.
+#[derive(Clone, Copy, Debug)]
+pub struct Terms<Hints = Vec<u64>> {
+    pub hints: Hints,
+    pub allowance: u64,
+    pub edition: u64,
+}
+
+impl<Hints: Default> Terms<Hints> {
+    /// Those of the program, but for the allowance: no hints, and edition 1.
+    pub fn plain(allowance: u64) -> Self {
+        Terms {
+            hints: Hints::default(),
+            allowance,
+            edition: 1,
+        }
+    }
+}
+
+impl Terms {
+    pub fn lend(&self) -> Terms<&[u64]> {
+        Terms {
+            hints: &self.hints,
+            allowance: self.allowance,
+            edition: self.edition,
+        }
+    }
+}
+
 /// What a run is lent besides its image.
 #[derive(Clone, Debug)]
 pub struct Lent {
     pub before: Tables,
-    pub hints: Vec<u64>,
-    pub allowance: u64,
+    pub terms: Terms,
 }
 
 #[derive(Clone, Copy, Debug, PartialEq, Eq)]
@@ -140,8 +172,8 @@ impl Answer {
         Self::of_numbers([number, 0, 0, 0, 0])
     }
 
-    /// Whether the number is a verdict.
+    /// Whether the number is a verdict; 5 is one of edition 2.
     pub fn is_verdict(&self) -> bool {
-        self.number <= 1
+        matches!(self.number, 0 | 1 | 5)
     }
 }

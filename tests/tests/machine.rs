@@ -1,13 +1,16 @@
 //! The machine alone, without the library: numbers and blockers that are known beforehand, the machine
-//! without the table of when blockers entered, and verdicts by the search.
+//! without the table of when blockers entered, what an edition changes, and verdicts by the search.
 
+use afa_tests::generate::aim;
 use afa_tests::generate::hints::hints;
-use afa_tests::generate::runs::{affordable_steps, lent, run_model, run_model_of, Earlier};
+use afa_tests::generate::runs::{
+    affordable_steps, lent, run_model, run_model_of, unknown_edition, Earlier,
+};
 use afa_tests::image::{model_a, model_b, model_c, model_d, rings};
 use afa_tests::machine::{run, run_without_entered};
 use afa_tests::random::Random;
 use afa_tests::search::assert_right;
-use afa_tests::tables::{Answer, Blocker, Tables};
+use afa_tests::tables::{Answer, Blocker, Tables, Terms, EDITIONS};
 
 #[test]
 fn known_numbers() {
@@ -17,13 +20,37 @@ fn known_numbers() {
         (model_c(), &[], [1, 6, 2, 1, 0]),
         (model_c(), &[6], [1, 6, 2, 1, 0]),
         (model_c(), &[4], [1, 6, 2, 1, 1]),
-        (model_d(), &[], [1, 0, 0, 0, 0]),
         (rings(&[2, 3, 5]), &[], [1, 219, 29, 61, 0]),
         (rings(&[2, 3, 5, 7]), &[], [1, 1901, 209, 490, 0]),
     ] {
-        let mut tables = Tables::cleared(1024, 1024);
-        let answer = run(&model.image(), tables.lend(), hints, 1 << 22);
-        assert_eq!(answer, Answer::of_numbers(numbers), "{model}");
+        for edition in EDITIONS {
+            let mut tables = Tables::cleared(1024, 1024);
+            let terms = Terms {
+                hints,
+                edition,
+                ..Terms::plain(1 << 22)
+            };
+            let answer = run(&model.image(), tables.lend(), terms);
+            let expected = Answer::of_numbers(numbers);
+            assert_eq!(answer, expected, "{model}, edition {edition}");
+        }
+    }
+}
+
+/// D's start is final.
+#[test]
+fn known_numbers_of_d() {
+    for (edition, number) in [(1, 1), (2, 5), (0, 36), (3, 36)] {
+        for allowance in [0, 1, 100] {
+            let terms = Terms {
+                edition,
+                ..Terms::plain(allowance)
+            };
+            let mut tables = Tables::cleared(8, 8);
+            let answer = run(&model_d().image(), tables.lend(), terms);
+            let expected = Answer::of_numbers([number, 0, 0, 0, 0]);
+            assert_eq!(answer, expected, "edition {edition}");
+        }
     }
 }
 
@@ -36,7 +63,11 @@ fn known_blockers() {
         (model_c(), &[4], (4, 1, 2)),
     ] {
         let mut tables = Tables::filled(&mut Random::seeded(12), 8, 8);
-        let answer = run(&model.image(), tables.lend(), hints, 100);
+        let terms = Terms {
+            hints,
+            ..Terms::plain(100)
+        };
+        let answer = run(&model.image(), tables.lend(), terms);
         let (mask, level, entered) = blocker;
         let blocker = Blocker {
             mask,
@@ -52,18 +83,18 @@ fn known_blockers() {
 #[test]
 fn without_entered() {
     let mut random = Random::seeded(13);
-    let mut by_number = [0_usize; 5];
+    let mut by_number = [0_usize; 6];
     let mut most_blockers = 0;
     for _ in 0..6_000 {
         let model = run_model(&mut random);
         let image = model.image();
         let affordable = affordable_steps(&model, 50_000);
-        let earlier = Earlier::new(&image, &[], affordable);
+        let earlier = Earlier::new(&image, Terms::plain(affordable));
         let lent = lent(&mut random, &model, &earlier, affordable);
         let mut with = lent.before.clone();
-        let answer = run(&image, with.lend(), &lent.hints, lent.allowance);
+        let answer = run(&image, with.lend(), lent.terms.lend());
         let mut without = lent.before.clone();
-        let other = run_without_entered(&image, without.lend(), &lent.hints, lent.allowance);
+        let other = run_without_entered(&image, without.lend(), lent.terms.lend());
         assert_eq!(answer, other, "{model}");
         assert_eq!(without.entered, lent.before.entered, "{model}");
         without.entered.clone_from(&with.entered);
@@ -74,29 +105,79 @@ fn without_entered() {
     println!(
         "6000 models without the third table: {by_number:?}, at most {most_blockers} blockers"
     );
-    assert!(by_number.iter().all(|&count| count > 100) && most_blockers > 50);
+    assert!(by_number[..5].iter().all(|&count| count > 100));
+    assert!(by_number[5] > 30 && most_blockers > 50);
+}
+
+/// The edition changes the number of a final start and nothing else, and one that there is not is
+/// refused.
+#[test]
+fn editions() {
+    let mut random = Random::seeded(14);
+    let (mut final_starts, mut by_number) = (0_usize, [0_usize; 5]);
+    for _ in 0..6_000 {
+        let mut model = run_model(&mut random);
+        if random.chance(50) {
+            aim(&mut random, &mut model, &[]);
+        }
+        let image = model.image();
+        let affordable = affordable_steps(&model, 50_000);
+        let earlier = Earlier::new(&image, Terms::plain(affordable));
+        let lent = lent(&mut random, &model, &earlier, affordable);
+        let in_edition = |edition| {
+            let mut tables = lent.before.clone();
+            let terms = Terms {
+                edition,
+                ..lent.terms.lend()
+            };
+            let answer = run(&image, tables.lend(), terms);
+            (answer, tables)
+        };
+        let [one, two] = EDITIONS.map(in_edition);
+        if model.starts_final() {
+            let [masks, _, _, cases, _] = lent.before.lengths();
+            let cleared = Tables::cleared(masks, cases);
+            for (number, (answer, after)) in [(1, one), (5, two)] {
+                let expected = Answer::of_numbers([number, 0, 0, 0, 0]);
+                assert_eq!((answer, &after), (expected, &cleared), "{model}");
+            }
+            final_starts += 1;
+        } else {
+            assert_eq!(one, two, "{model}");
+            by_number[one.0.number as usize] += 1;
+        }
+        let refused = (Answer::refused(36), lent.before.clone());
+        assert_eq!(in_edition(unknown_edition(&mut random)), refused, "{model}");
+    }
+    println!("6000 models in both editions: {final_starts} final starts, others {by_number:?}");
+    assert!(final_starts > 1_000 && by_number.iter().all(|&count| count > 100));
 }
 
 #[test]
 fn verdicts() {
     let mut random = Random::seeded(11);
-    let mut verdicts = [0_usize; 2];
+    let mut verdicts = [0_usize; 6];
     let mut longest_word = 0;
     for _ in 0..6_000 {
         let (states, symbols) = (random.within(1..=10), random.within(1..=4));
         let model = run_model_of(&mut random, states, symbols);
         let image = model.image();
-        let earlier = Earlier::new(&image, &[], u64::MAX);
+        let earlier = Earlier::new(&image, Terms::plain(u64::MAX));
         let places = 1 << states;
         let mut tables = Tables::filled(&mut random, places, places);
-        let hints = hints(&mut random, &model, &earlier.blocks);
-        let answer = run(&image, tables.lend(), &hints, 4 << (2 * states));
-        assert_right(&model, &answer, &tables);
+        let terms = Terms {
+            hints: hints(&mut random, &model, &earlier.blocks),
+            edition: random.pick(&EDITIONS),
+            ..Terms::plain(4 << (2 * states))
+        };
+        let answer = run(&image, tables.lend(), terms.lend());
+        assert_right(&model, terms.edition, &answer, &tables);
         verdicts[answer.number as usize] += 1;
         if answer.number == 1 {
             longest_word = longest_word.max(answer.level);
         }
     }
     println!("6000 models by the search: {verdicts:?}, longest shortest word {longest_word}");
-    assert!(verdicts.iter().all(|&count| count > 1_000) && longest_word >= 8);
+    assert!(verdicts[0] > 1_000 && verdicts[1] > 1_000 && longest_word >= 8);
+    assert!(verdicts[5] > 40);
 }

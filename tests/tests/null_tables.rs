@@ -8,7 +8,7 @@ use afa_tests::afa::walk::interface::afa_walk;
 use afa_tests::afa::why::interface::afa_why;
 use afa_tests::image::{model_a, model_b, model_c, model_d};
 use afa_tests::machine;
-use afa_tests::tables::{Answer, Tables};
+use afa_tests::tables::{Answer, Tables, Terms, EDITIONS};
 use std::ptr::{null, null_mut};
 
 #[test]
@@ -50,8 +50,9 @@ fn pointer_mut<T>(slice: &mut [T]) -> *mut T {
     }
 }
 
-/// A run with rooms of these lengths and these hints, each null if it is empty, against the machine.
-fn expect(image: &[u8], lengths: [usize; 5], hints: &[u64], allowance: u64, numbers: [u64; 5]) {
+/// A run with rooms of these lengths and on these terms, each table and the hints null if empty, against
+/// the machine.
+fn expect(image: &[u8], lengths: [usize; 5], terms: Terms<&[u64]>, numbers: [u64; 5]) {
     let [masks, levels, entered, cases, symbols] = lengths;
     let before = Tables {
         masks: vec![9; masks],
@@ -61,8 +62,9 @@ fn expect(image: &[u8], lengths: [usize; 5], hints: &[u64], allowance: u64, numb
         symbols: vec![9; symbols],
     };
     let mut expected = before.clone();
-    let answer = machine::run(image, expected.lend(), hints, allowance);
-    assert_eq!(answer, Answer::of_numbers(numbers), "{lengths:?}");
+    let answer = machine::run(image, expected.lend(), terms);
+    let known = Answer::of_numbers(numbers);
+    assert_eq!(answer, known, "{lengths:?}, {terms:?}");
     let mut tables = before;
     let mut counts = [7; 4];
     // SAFETY: what is null has no elements, and the rest as many as it says.
@@ -80,16 +82,17 @@ fn expect(image: &[u8], lengths: [usize; 5], hints: &[u64], allowance: u64, numb
             cases,
             pointer_mut(&mut tables.symbols),
             symbols,
-            pointer(hints),
-            hints.len(),
-            allowance,
+            pointer(terms.hints),
+            terms.hints.len(),
+            terms.allowance,
+            terms.edition,
             counts.as_mut_ptr(),
         )
     };
     let [steps, level, blockers, accepted] = counts;
     let answered = [number, steps, level, blockers, accepted];
-    assert_eq!(answered, numbers, "{lengths:?}, {hints:?}");
-    assert_eq!(tables, expected, "{lengths:?}, {hints:?}");
+    assert_eq!(answered, numbers, "{lengths:?}, {terms:?}");
+    assert_eq!(tables, expected, "{lengths:?}, {terms:?}");
 }
 
 #[test]
@@ -97,34 +100,52 @@ fn run() {
     let models = [model_a(), model_b(), model_c(), model_d()];
     let [a, b, c, d] = models.map(|model| model.image());
     let nothing = [0; 5];
-    expect(&[], nothing, &[], 100, [20, 0, 0, 0, 0]);
-    expect(&[], [4; 5], &[4], 100, [20, 0, 0, 0, 0]);
-    // No room at all: enough where no step is needed.
-    expect(&d, nothing, &[], 0, [1, 0, 0, 0, 0]);
-    expect(&d, nothing, &[4], u64::MAX, [1, 0, 0, 0, 0]);
-    expect(&a, nothing, &[], 0, [2, 0, 0, 0, 0]);
-    expect(&a, nothing, &[], 100, [4, 0, 0, 0, 0]);
-    expect(&a, [4, 4, 4, 0, 0], &[], 100, [4, 0, 0, 0, 0]);
-    expect(&a, [0, 0, 0, 4, 4], &[], 100, [3, 1, 1, 0, 0]);
-    expect(&a, [0, 0, 0, 4, 4], &[2], 1, [2, 1, 1, 0, 0]);
-    // A word that is found before any block.
-    expect(&b, [0, 0, 0, 1, 1], &[], 100, [1, 2, 1, 0, 0]);
-    // Hints alone.
-    expect(&a, [4; 5], &[], 100, [0, 3, 1, 1, 0]);
-    expect(&c, [4; 5], &[], 100, [1, 6, 2, 1, 0]);
-    // Some tables of a room and not the others.
-    for lengths in [
-        [0, 4, 4, 4, 4],
-        [4, 0, 4, 4, 4],
-        [4, 4, 0, 4, 4],
-        [4, 0, 0, 4, 4],
-        [0, 4, 0, 4, 4],
-        [0, 0, 4, 4, 4],
-        [4, 4, 4, 0, 4],
-        [4, 4, 4, 4, 0],
-    ] {
-        expect(&c, lengths, &[], 100, [30, 0, 0, 0, 0]);
+    for edition in EDITIONS {
+        let terms = |hints: &'static [u64], allowance| Terms {
+            hints,
+            edition,
+            ..Terms::plain(allowance)
+        };
+        expect(&[], nothing, terms(&[], 100), [20, 0, 0, 0, 0]);
+        expect(&[], [4; 5], terms(&[4], 100), [20, 0, 0, 0, 0]);
+        // No room at all: enough where no step is needed.
+        let final_start = [if edition == 2 { 5 } else { 1 }, 0, 0, 0, 0];
+        expect(&d, nothing, terms(&[], 0), final_start);
+        expect(&d, nothing, terms(&[4], u64::MAX), final_start);
+        expect(&a, nothing, terms(&[], 0), [2, 0, 0, 0, 0]);
+        expect(&a, nothing, terms(&[], 100), [4, 0, 0, 0, 0]);
+        expect(&a, [4, 4, 4, 0, 0], terms(&[], 100), [4, 0, 0, 0, 0]);
+        expect(&a, [0, 0, 0, 4, 4], terms(&[], 100), [3, 1, 1, 0, 0]);
+        expect(&a, [0, 0, 0, 4, 4], terms(&[2], 1), [2, 1, 1, 0, 0]);
+        // A word that is found before any block.
+        expect(&b, [0, 0, 0, 1, 1], terms(&[], 100), [1, 2, 1, 0, 0]);
+        // Hints alone.
+        expect(&a, [4; 5], terms(&[], 100), [0, 3, 1, 1, 0]);
+        expect(&c, [4; 5], terms(&[], 100), [1, 6, 2, 1, 0]);
+        // Some tables of a room and not the others.
+        for lengths in [
+            [0, 4, 4, 4, 4],
+            [4, 0, 4, 4, 4],
+            [4, 4, 0, 4, 4],
+            [4, 0, 0, 4, 4],
+            [0, 4, 0, 4, 4],
+            [0, 0, 4, 4, 4],
+            [4, 4, 4, 0, 4],
+            [4, 4, 4, 4, 0],
+        ] {
+            expect(&c, lengths, terms(&[], 100), [30, 0, 0, 0, 0]);
+        }
     }
+    let unknown = Terms {
+        edition: 3,
+        ..Terms::plain(100)
+    };
+    for image in [&a, &d] {
+        expect(image, nothing, unknown, [36, 0, 0, 0, 0]);
+        expect(image, [4; 5], unknown, [36, 0, 0, 0, 0]);
+    }
+    expect(&[], nothing, unknown, [20, 0, 0, 0, 0]);
+    expect(&a, [0, 4, 4, 4, 4], unknown, [30, 0, 0, 0, 0]);
 }
 
 /// No image, the empty word, and no room, in which no print has a place.

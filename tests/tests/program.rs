@@ -10,7 +10,7 @@ use afa_tests::generate::{self, runs::run_model};
 use afa_tests::image::{broken_model_c, model_a, model_b, model_c, model_d, rings, Model};
 use afa_tests::machine::run;
 use afa_tests::random::Random;
-use afa_tests::tables::Tables;
+use afa_tests::tables::{Tables, Terms};
 use afa_tests::text;
 use std::fmt::Display;
 use std::fs;
@@ -20,7 +20,7 @@ use std::process::{Command, Stdio};
 use std::thread::{self, sleep};
 use std::time::Duration;
 
-/// What the program lends its run.
+/// What the program lends its run, which has no hints and edition 1.
 const PLACES: usize = 256;
 const ALLOWANCE: u64 = 100_000;
 
@@ -35,7 +35,7 @@ fn root() -> PathBuf {
 fn expected(input: &[u8]) -> (u64, String) {
     let image = &input[..input.len().min(MOST_READ)];
     let mut tables = Tables::cleared(PLACES, PLACES);
-    let answer = run(image, tables.lend(), &[], ALLOWANCE);
+    let answer = run(image, tables.lend(), Terms::plain(ALLOWANCE));
     let counts = [
         answer.number,
         answer.steps,

@@ -6,7 +6,7 @@ use afa_tests::generate::runs::{affordable_steps, lent, run_model, Earlier};
 use afa_tests::generate::stops::for_want_of_steps;
 use afa_tests::image::Model;
 use afa_tests::random::Random;
-use afa_tests::tables::{Answer, Blocker, Lent, Tables};
+use afa_tests::tables::{Answer, Blocker, Lent, Tables, Terms};
 
 const MODELS: usize = 8_000;
 
@@ -29,7 +29,7 @@ fn in_table_order() {
         let model = run_model(&mut random);
         let image = model.image();
         let affordable = affordable_steps(&model, 100_000);
-        let earlier = Earlier::new(&image, &[], affordable);
+        let earlier = Earlier::new(&image, Terms::plain(affordable));
         if earlier.answer.steps < 6 {
             continue;
         }
@@ -56,8 +56,7 @@ fn in_table_order() {
 fn blockers_after(steps: u64, model: &Model) -> Vec<Blocker> {
     let lent = Lent {
         before: Tables::filled(&mut Random::seeded(72), 8, 8),
-        hints: Vec::new(),
-        allowance: steps,
+        terms: Terms::plain(steps),
     };
     let (answer, after) = Comparison::default().run(&model.image(), &lent, model);
     assert_eq!((answer.number, answer.steps), (2, steps), "{model}");
@@ -140,8 +139,7 @@ fn late() {
     let model = for_want_of_steps();
     let lent = Lent {
         before: Tables::filled(&mut Random::seeded(73), 256, 256),
-        hints: Vec::new(),
-        allowance: 100_000,
+        terms: Terms::plain(100_000),
     };
     let (answer, after) = Comparison::default().run(&model.image(), &lent, &model);
     assert_eq!((answer.number, answer.steps), (2, 100_000));

@@ -1,34 +1,37 @@
-//! Runs whose five numbers are known beforehand, with every place that they leave: models A to D, the
-//! rings, and the largest sizes and their neighbours.
+//! Runs whose five numbers are known beforehand, with every place that they leave, in either edition:
+//! models A to D, the rings, and the largest sizes and their neighbours.
 
 use afa_tests::compare::run::Comparison;
 use afa_tests::image::{model_a, model_b, model_c, model_d, rings, Model};
 use afa_tests::random::Random;
 use afa_tests::search::{is_closed, shortest_word};
-use afa_tests::tables::{Answer, Lent, Tables};
+use afa_tests::tables::{Answer, Lent, Tables, Terms, EDITIONS};
 
 /// What a run is lent, which is as in the program where a line does not say otherwise.
 #[derive(Clone, Copy)]
-struct Terms<'a> {
+struct Loan<'a> {
     blocker_room: usize,
     word_room: usize,
     hints: &'a [u64],
     allowance: u64,
 }
 
-const PROGRAM: Terms = Terms {
+const PROGRAM: Loan = Loan {
     blocker_room: 256,
     word_room: 256,
     hints: &[],
     allowance: 100_000,
 };
 
-impl Terms<'_> {
-    fn lent(self) -> Lent {
+impl Loan<'_> {
+    fn lent(self, edition: u64) -> Lent {
         Lent {
             before: Tables::filled(&mut Random::seeded(1), self.blocker_room, self.word_room),
-            hints: self.hints.to_vec(),
-            allowance: self.allowance,
+            terms: Terms {
+                hints: self.hints.to_vec(),
+                edition,
+                ..Terms::plain(self.allowance)
+            },
         }
     }
 }
@@ -36,34 +39,40 @@ impl Terms<'_> {
 /// A blocker's mask, its level and the step at which it entered.
 type Entry = (u64, u32, u64);
 
-/// The five numbers, the entries and the word; all other places are 0.
-fn expect(model: &Model, terms: Terms, numbers: [u64; 5], entries: &[Entry], word: &[u8]) {
-    let (answer, after) = Comparison::default().run(&model.image(), &terms.lent(), model);
-    assert_eq!(answer, Answer::of_numbers(numbers), "{model}");
-    let mut expected = Tables::cleared(terms.blocker_room, terms.word_room);
+/// The five numbers, the entries and the word, the same in either edition; all other places are 0.
+fn expect(model: &Model, loan: Loan, numbers: [u64; 5], entries: &[Entry], word: &[u8]) {
+    let mut expected = Tables::cleared(loan.blocker_room, loan.word_room);
     for (place, &(mask, level, entered)) in entries.iter().enumerate() {
         expected.masks[place] = mask;
         expected.levels[place] = level;
         expected.entered[place] = entered;
     }
     expected.symbols[..word.len()].copy_from_slice(word);
-    assert_eq!(after, expected, "{model}");
+    for edition in EDITIONS {
+        let lent = loan.lent(edition);
+        let (answer, after) = Comparison::default().run(&model.image(), &lent, model);
+        let shown = format!("{model}, edition {edition}");
+        assert_eq!(answer, Answer::of_numbers(numbers), "{shown}");
+        assert_eq!(after, expected, "{shown}");
+    }
 }
 
-/// The number and four zeros, and every place as it was.
-fn expect_refused(image: &[u8], terms: Terms, number: u64) {
-    let lent = terms.lent();
-    let origin = format!("expected to give {number}");
-    let (answer, after) = Comparison::default().run(image, &lent, &origin);
-    assert_eq!(answer, Answer::of_numbers([number, 0, 0, 0, 0]));
-    assert!(after == lent.before, "{origin}");
+/// The number and four zeros in either edition, and every place as it was.
+fn expect_refused(image: &[u8], loan: Loan, number: u64) {
+    for edition in EDITIONS {
+        let lent = loan.lent(edition);
+        let origin = format!("expected to give {number}");
+        let (answer, after) = Comparison::default().run(image, &lent, &origin);
+        assert_eq!(answer, Answer::of_numbers([number, 0, 0, 0, 0]));
+        assert!(after == lent.before, "{origin}");
+    }
 }
 
 #[test]
 fn a() {
     let (a, program) = (model_a(), PROGRAM);
     expect(&a, program, [0, 3, 1, 1, 0], &[(4, 2, 2)], &[]);
-    let one_place = Terms {
+    let one_place = Loan {
         blocker_room: 1,
         word_room: 1,
         allowance: 3,
@@ -86,13 +95,13 @@ fn a_stops() {
         (256, 0, 1, [4, 0, 0, 0, 0], &[]),
         (256, 0, 0, [2, 0, 0, 0, 0], &[]),
     ] {
-        let terms = Terms {
+        let loan = Loan {
             blocker_room,
             word_room,
             allowance,
             ..PROGRAM
         };
-        expect(&model_a(), terms, numbers, blockers, &[]);
+        expect(&model_a(), loan, numbers, blockers, &[]);
     }
 }
 
@@ -107,7 +116,7 @@ fn c() {
     let (c, program) = (model_c(), PROGRAM);
     let (grown, hinted) = ([(2, 1, 2)], [(4, 1, 2)]);
     expect(&c, program, [1, 6, 2, 1, 0], &grown, &[0, 1]);
-    let with_hints = |hints| Terms { hints, ..program };
+    let with_hints = |hints| Loan { hints, ..program };
     expect(&c, with_hints(&[6]), [1, 6, 2, 1, 0], &grown, &[0, 1]);
     expect(&c, with_hints(&[4]), [1, 6, 2, 1, 1], &hinted, &[0, 1]);
     // The second block never comes, and it is not the first that the second hint is for.
@@ -118,24 +127,26 @@ fn c() {
     assert_eq!(shortest_word(&c), Some(2));
 }
 
+/// Its start is final, which the editions answer by numbers of their own.
 #[test]
 fn d() {
     let (d, program) = (model_d(), PROGRAM);
-    let nothing = Terms {
+    let nothing = Loan {
         blocker_room: 0,
         word_room: 0,
         allowance: 0,
         ..program
     };
-    for terms in [
-        nothing,
-        program,
-        Terms {
-            allowance: 0,
-            ..program
-        },
-    ] {
-        expect(&d, terms, [1, 0, 0, 0, 0], &[], &[]);
+    let no_steps = Loan {
+        allowance: 0,
+        ..program
+    };
+    for loan in [nothing, program, no_steps] {
+        for (edition, number) in [(1, 1), (2, 5)] {
+            let (answer, after) = Comparison::default().run(&d.image(), &loan.lent(edition), &d);
+            assert_eq!(answer, Answer::of_numbers([number, 0, 0, 0, 0]));
+            assert_eq!(after, Tables::cleared(loan.blocker_room, loan.word_room));
+        }
     }
 }
 
@@ -180,7 +191,7 @@ fn most_places() {
         (65_536, 65_536, 65_536),
     ] {
         for hint in [0, 4, 6] {
-            let terms = Terms {
+            let loan = Loan {
                 blocker_room,
                 word_room,
                 hints: &vec![hint; hint_count],
@@ -191,7 +202,7 @@ fn most_places() {
                 _ => (1, hint),
             };
             let numbers = [1, 6, 2, 1, accepted];
-            expect(&model_c(), terms, numbers, &[(blocker, 1, 2)], &[0, 1]);
+            expect(&model_c(), loan, numbers, &[(blocker, 1, 2)], &[0, 1]);
         }
     }
 }
@@ -205,13 +216,13 @@ fn one_place_too_many() {
         (256, 256, 65_537),
         (65_537, 65_537, 65_537),
     ] {
-        let terms = Terms {
+        let loan = Loan {
             blocker_room,
             word_room,
             hints: &vec![0; hint_count],
             ..PROGRAM
         };
-        expect_refused(&model_c().image(), terms, 31);
+        expect_refused(&model_c().image(), loan, 31);
     }
 }
 
@@ -247,14 +258,18 @@ fn coprime_rings() {
         (&[2, 3, 5, 11], [1, 3155, 329, 781, 0]),
     ] {
         let model = rings(sizes);
-        let lent = Lent {
-            before: Tables::filled(&mut Random::seeded(3), 1024, 1024),
-            hints: Vec::new(),
-            allowance: 1 << 22,
-        };
-        let (answer, after) = Comparison::default().run(&model.image(), &lent, &model);
-        assert_eq!(answer, Answer::of_numbers(numbers), "rings {sizes:?}");
-        assert_eq!(sizes.iter().product::<usize>() as u64, answer.level + 1);
-        assert!(after.symbols.iter().all(|&symbol| symbol == 0));
+        for edition in EDITIONS {
+            let lent = Lent {
+                before: Tables::filled(&mut Random::seeded(3), 1024, 1024),
+                terms: Terms {
+                    edition,
+                    ..Terms::plain(1 << 22)
+                },
+            };
+            let (answer, after) = Comparison::default().run(&model.image(), &lent, &model);
+            assert_eq!(answer, Answer::of_numbers(numbers), "rings {sizes:?}");
+            assert_eq!(sizes.iter().product::<usize>() as u64, answer.level + 1);
+            assert!(after.symbols.iter().all(|&symbol| symbol == 0));
+        }
     }
 }

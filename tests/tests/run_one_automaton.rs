@@ -1,12 +1,12 @@
 //! Runs on images that hold one automaton: lent the same, they do the same; lent other hints and rooms,
-//! they agree on the verdict and on the word's length whenever both have a verdict.
+//! those of one edition agree on the verdict and on the word's length whenever both have a verdict.
 
 use afa_tests::compare::run::Comparison;
 use afa_tests::generate::runs::{affordable_steps, lent, run_model, Earlier};
 use afa_tests::image::Model;
 use afa_tests::random::Random;
 use afa_tests::rearrange::{repeated, shuffled, without_repeats};
-use afa_tests::tables::Answer;
+use afa_tests::tables::{Answer, Terms, EDITIONS};
 
 const MODELS: usize = 1_500;
 
@@ -20,24 +20,26 @@ fn verdict(answer: &Answer) -> Option<(u64, Option<u64>)> {
 fn order_and_repeats_do_not_matter() {
     let mut random = Random::seeded(51);
     let mut comparison = Comparison::default();
-    let (mut models, mut agreed, mut differing) = (0, [0_usize; 2], 0);
+    let (mut models, mut agreed, mut differing) = (0, [0_usize; 6], 0);
     while models < MODELS {
         let model = run_model(&mut random);
         let affordable = affordable_steps(&model, 200_000);
-        let earlier = Earlier::new(&model.image(), &[], affordable);
-        if earlier.answer.steps < 6 {
+        let earlier = Earlier::new(&model.image(), Terms::plain(affordable));
+        if earlier.answer.steps < 6 && !model.starts_final() {
             continue;
         }
         models += 1;
-        let terms: Vec<_> = (0..3)
-            .map(|_| lent(&mut random, &model, &earlier, affordable))
-            .collect();
-        let answers = terms
-            .iter()
+        let edition = random.pick(&EDITIONS);
+        let loans = [0; 3].map(|_| {
+            let mut lent = lent(&mut random, &model, &earlier, affordable);
+            lent.terms.edition = edition;
+            lent
+        });
+        let answers = loans
+            .each_ref()
             .map(|lent| comparison.run(&model.image(), lent, &model));
-        let answers: Vec<_> = answers.collect();
         for other in other_images(&mut random, &model) {
-            for (lent, expected) in terms.iter().zip(&answers) {
+            for (lent, expected) in loans.iter().zip(&answers) {
                 let (answer, after) = comparison.run(&other.image(), lent, &other);
                 assert!(
                     (answer, &after) == (expected.0, &expected.1),
@@ -55,11 +57,12 @@ fn order_and_repeats_do_not_matter() {
         }
     }
     println!(
-        "{MODELS} models in 3 other images each: {agreed:?} pairs of runs with a verdict, {differing} \
-         of them with other steps or blockers: {}",
+        "{MODELS} models in 3 other images each: {agreed:?} pairs of runs with a verdict, by number, \
+         {differing} of them with other steps or blockers: {}",
         comparison.seen
     );
     assert!(agreed[0] > 1_000 && agreed[1] > 1_000 && differing > 1_000);
+    assert!(agreed[5] > 300);
 }
 
 fn other_images(random: &mut Random, model: &Model) -> [Model; 3] {

@@ -1,11 +1,11 @@
 //! Runs of random models of 1 to 64 states, with good and bad hints, in rooms that are too short or
-//! just long enough, and with allowances that end them anywhere.
+//! just long enough, with allowances that end them anywhere, and in either edition.
 
 use afa_tests::compare::run::Comparison;
 use afa_tests::generate::runs::{affordable_steps, lent, run_model, Earlier};
 use afa_tests::random::Random;
 use afa_tests::search::proves_itself;
-use afa_tests::tables::Tables;
+use afa_tests::tables::{Tables, Terms};
 
 const MODELS: usize = 52_000;
 const RUNS: usize = 3;
@@ -23,7 +23,7 @@ fn random_models() {
             // Now and then a run may take long.
             let row_tests = if number % 50 == 0 { 3_000_000 } else { 100_000 };
             let affordable = affordable_steps(&model, row_tests);
-            let earlier = Earlier::new(&image, &[], affordable);
+            let earlier = Earlier::new(&image, Terms::plain(affordable));
             // Most models answer at once, and few of those are enough.
             if earlier.answer.steps > 3 || random.chance(20) {
                 break (model, image, affordable, earlier);
@@ -36,19 +36,24 @@ fn random_models() {
                 let [masks, _, _, cases, _] = lent.before.lengths();
                 let (masks, cases) = random.pick(&[(65_536, cases), (masks, 65_536)]);
                 lent.before = Tables::filled(&mut random, masks, cases);
-                lent.allowance = lent.allowance.min(affordable);
+                lent.terms.allowance = lent.terms.allowance.min(affordable);
                 most_places += 1;
             }
             if number % 1_000 == 500 && run == 0 {
-                lent.hints.resize_with(65_536, || random.number());
-                lent.allowance = lent.allowance.min(affordable);
+                lent.terms.hints.resize_with(65_536, || random.number());
+                lent.terms.allowance = lent.terms.allowance.min(affordable);
             }
             let (answer, after) = comparison.run(&image, &lent, &model);
             if answer.is_verdict() {
-                let proved = proves_itself(&model, &answer, &after);
-                assert!(proved, "{model}\n{answer:?}\n{after:?}");
+                let edition = lent.terms.edition;
+                let proved = proves_itself(&model, edition, &answer, &after);
+                assert!(proved, "{model}, edition {edition}\n{answer:?}\n{after:?}");
                 if earlier.answer.is_verdict() {
-                    assert_eq!(answer.number, earlier.answer.number, "{model}");
+                    let expected = match (edition, model.starts_final()) {
+                        (2, true) => 5,
+                        _ => earlier.answer.number,
+                    };
+                    assert_eq!(answer.number, expected, "{model}, edition {edition}");
                 }
             }
         }
@@ -64,6 +69,7 @@ fn random_models() {
     );
     println!("{seen}");
     seen.assert_each_number(4_000);
+    assert!(seen.times(5) > 200);
     assert!(states[1..].iter().all(|&count| count > 30), "{states:?}");
     assert!(full_size > 10 && most_rows > 4_000);
     assert!(seen.by_hint > 20_000 && seen.room_by_leaving > 500);

@@ -3,11 +3,12 @@
 use afa_tests::afa::run::run_untouchable;
 use afa_tests::compare::run::Comparison;
 use afa_tests::damage::damage;
-use afa_tests::generate::{self, runs::run_model};
+use afa_tests::generate;
+use afa_tests::generate::runs::{run_model, unknown_edition};
 use afa_tests::guarded::{Untouchable, EDGES};
 use afa_tests::image::{broken_model_c, model_c, Model};
 use afa_tests::random::Random;
-use afa_tests::tables::{Answer, Lent, Tables};
+use afa_tests::tables::{Answer, Lent, Tables, Terms, EDITIONS};
 
 /// Lengths of masks, levels, entered, cases, symbols and hints, and the number that they give on a valid
 /// image.
@@ -62,13 +63,26 @@ const LENGTHS: [([usize; 6], Option<u64>); 43] = [
     ([4, 4, 4, 4, 65_540, 0], Some(30)),
 ];
 
-fn lent(random: &mut Random, lengths: [usize; 6]) -> Lent {
+fn lent(random: &mut Random, lengths: [usize; 6], edition: u64) -> Lent {
     let [masks, levels, entered, cases, symbols, hints] = lengths;
     Lent {
         before: Tables::filled_unevenly(random, [masks, levels, entered, cases, symbols]),
-        hints: (0..hints).map(|_| random.number()).collect(),
-        allowance: random.pick(&[0, 1, 100_000, u64::MAX]),
+        terms: Terms {
+            hints: (0..hints).map(|_| random.number()).collect(),
+            edition,
+            ..Terms::plain(random.pick(&[0, 1, 100_000, u64::MAX]))
+        },
     }
+}
+
+/// The editions that there are, and one that there is not with the number that it gives.
+fn editions(random: &mut Random) -> [(u64, Option<u64>); 3] {
+    let [one, two] = EDITIONS;
+    [
+        (one, None),
+        (two, None),
+        (unknown_edition(random), Some(36)),
+    ]
 }
 
 fn expect_refused(comparison: &mut Comparison, image: &[u8], lent: &Lent, number: u64) {
@@ -83,12 +97,14 @@ fn lengths() {
     let mut comparison = Comparison::default();
     let image = model_c().image();
     for (lengths, number) in LENGTHS {
-        let lent = lent(&mut random, lengths);
-        match number {
-            Some(number) => expect_refused(&mut comparison, &image, &lent, number),
-            None => {
-                let (answer, _) = comparison.run(&image, &lent, &"expected to run");
-                assert!(answer.number < 20);
+        for (edition, unknown) in editions(&mut random) {
+            let lent = lent(&mut random, lengths, edition);
+            match number.or(unknown) {
+                Some(number) => expect_refused(&mut comparison, &image, &lent, number),
+                None => {
+                    let (answer, _) = comparison.run(&image, &lent, &"expected to run");
+                    assert!(answer.number < 20);
+                }
             }
         }
     }
@@ -101,28 +117,35 @@ fn checks_come_first() {
     let mut comparison = Comparison::default();
     let accepting = Model::plain(1, 1, 0);
     for (lengths, number) in [
-        ([1, 0, 0, 0, 0, 0], 30),
-        ([0, 1, 0, 0, 0, 0], 30),
-        ([0, 0, 1, 0, 0, 0], 30),
-        ([0, 0, 0, 1, 0, 0], 30),
-        ([65_537, 65_537, 65_537, 0, 0, 0], 31),
-        ([0, 0, 0, 65_537, 65_537, 0], 31),
-        ([0, 0, 0, 0, 0, 65_537], 31),
+        ([1, 0, 0, 0, 0, 0], Some(30)),
+        ([0, 1, 0, 0, 0, 0], Some(30)),
+        ([0, 0, 1, 0, 0, 0], Some(30)),
+        ([0, 0, 0, 1, 0, 0], Some(30)),
+        ([65_537, 65_537, 65_537, 0, 0, 0], Some(31)),
+        ([0, 0, 0, 65_537, 65_537, 0], Some(31)),
+        ([0, 0, 0, 0, 0, 65_537], Some(31)),
+        ([0, 0, 0, 0, 0, 0], None),
+        ([4, 4, 4, 4, 4, 4], None),
     ] {
-        for allowance in [0, 1] {
-            let mut lent = lent(&mut random, lengths);
-            lent.allowance = allowance;
-            expect_refused(&mut comparison, &accepting.image(), &lent, number);
+        for (edition, unknown) in editions(&mut random) {
+            for allowance in [0, 1] {
+                if let Some(number) = number.or(unknown) {
+                    let mut lent = lent(&mut random, lengths, edition);
+                    lent.terms.allowance = allowance;
+                    expect_refused(&mut comparison, &accepting.image(), &lent, number);
+                }
+            }
         }
     }
 }
 
-/// Each check of an image broken or not, in all ways, with rooms that are refused and rooms that are
-/// not.
+/// Each check of an image broken or not, in all ways, with rooms and editions that are refused and those
+/// that are not.
 #[test]
 fn order_of_checks() {
     let mut random = Random::seeded(63);
     let mut comparison = Comparison::default();
+    let mut beside_unknown = [0_usize; 40];
     for broken in 0..1 << 8 {
         let is_broken = |number: u64| broken >> (number - 20) & 1 == 1;
         let mask_at = random.pick(&[4, 12]);
@@ -138,16 +161,22 @@ fn order_of_checks() {
             if long && first.is_some() && !random.chance(5) {
                 continue;
             }
-            if let Some(number) = first.or(number) {
-                let lent = lent(&mut random, lengths);
+            let editions = editions(&mut random);
+            let (edition, unknown) = random.pick(&editions);
+            if let Some(number) = first.or(number).or(unknown) {
+                let lent = lent(&mut random, lengths, edition);
                 expect_refused(&mut comparison, &image, &lent, number);
+                beside_unknown[number as usize] += usize::from(unknown.is_some());
             }
         }
     }
-    println!("order of checks: {:?}", &comparison.seen.by_number[20..]);
-    let by_number = &comparison.seen.by_number;
-    assert!(by_number[20..28].iter().all(|&count| count > 10));
-    assert!(by_number[30] > 10 && by_number[31] > 5);
+    let seen = comparison.seen;
+    println!("order of checks, by number: {:?}", seen.by_number);
+    assert!((20..28).all(|number| seen.times(number) > 10));
+    assert!(seen.times(30) > 10 && seen.times(31) > 5);
+    println!("beside an unknown edition: {:?}", &beside_unknown[20..]);
+    assert!(beside_unknown[20..28].iter().all(|&count| count > 5));
+    assert!(beside_unknown[30] > 5);
 }
 
 #[test]
@@ -165,8 +194,10 @@ fn damaged_images() {
         let [blocker_room, word_room, hints] = [6, 6, 12].map(|bound| random.below(bound));
         let [masks, levels, entered] = [blocker_room; 3];
         let lengths = [masks, levels, entered, word_room, word_room, hints];
-        let mut lent = lent(&mut random, lengths);
-        lent.allowance = lent.allowance.min(20);
+        let editions = editions(&mut random);
+        let (edition, _) = random.pick(&editions);
+        let mut lent = lent(&mut random, lengths, edition);
+        lent.terms.allowance = lent.terms.allowance.min(20);
         match random.below(20) {
             0 => lent.before.masks.push(7),
             1 => lent.before.levels.push(7),
@@ -181,16 +212,17 @@ fn damaged_images() {
             assert!(after == lent.before, "{origin}");
         }
     }
-    let by_number = comparison.seen.by_number;
-    println!("30000 damaged images, by number: {by_number:?}");
-    assert!(by_number[20..28].iter().all(|&count| count > 300));
-    assert!(by_number[30] > 300);
+    let seen = comparison.seen;
+    println!("30000 damaged images, by number: {:?}", seen.by_number);
+    assert!((20..28).all(|number| seen.times(number) > 300));
+    assert!(seen.times(30) > 300 && seen.times(36) > 300);
 }
 
-/// Lengths that would fit if they were cut down to 32 bits.
+/// Lengths that would fit if they were cut down to 32 bits, in every edition.
 #[test]
 fn lengths_that_fit_when_cut() {
     const LONG: usize = (1 << 32) + 4;
+    let mut random = Random::seeded(65);
     let image = model_c().image();
     let memory = Untouchable::with_room(LONG * size_of::<u64>());
     for (lengths, number) in [
@@ -205,10 +237,14 @@ fn lengths_that_fit_when_cut() {
         ([4, 4, 4, LONG, 4, 4], 30),
         ([4, 4, 4, 4, LONG, 4], 30),
     ] {
-        for edge in EDGES {
-            let mut counts = [7; 4];
-            let answered = run_untouchable(&image, lengths, &memory, edge, &mut counts);
-            assert_eq!((answered, counts), (number, [0; 4]), "{lengths:?}");
+        for (edition, _) in editions(&mut random) {
+            for edge in EDGES {
+                let mut counts = [7; 4];
+                let answered =
+                    run_untouchable(&image, lengths, edition, &memory, edge, &mut counts);
+                let lent = format!("{lengths:?}, edition {edition}");
+                assert_eq!((answered, counts), (number, [0; 4]), "{lent}");
+            }
         }
     }
 }

@@ -6,7 +6,7 @@ use afa_tests::generate::hints::hints;
 use afa_tests::generate::runs::{affordable_steps, run_model, Earlier};
 use afa_tests::image::{model_a, model_b, model_c, rings, Model};
 use afa_tests::random::Random;
-use afa_tests::tables::{Answer, Blocker, Lent, Tables};
+use afa_tests::tables::{Answer, Blocker, Lent, Tables, Terms, EDITIONS};
 
 const MODELS: usize = 400;
 
@@ -49,15 +49,14 @@ impl Steps {
     }
 }
 
-/// Every allowance up to one more than the run needs, or up to `most`. Answers the last.
+/// Every allowance up to one more than the run needs, or up to that of the terms. Answers the last.
 fn every_allowance(
     comparison: &mut Comparison,
     seen: &mut Steps,
     random: &mut Random,
     model: &Model,
     rooms: (usize, usize),
-    hints: &[u64],
-    most: u64,
+    terms: &Terms,
 ) -> Answer {
     let image = model.image();
     let mut ended: Option<(Answer, Tables)> = None;
@@ -65,8 +64,10 @@ fn every_allowance(
     for allowance in 0.. {
         let lent = Lent {
             before: Tables::filled(random, rooms.0, rooms.1),
-            hints: hints.to_vec(),
-            allowance,
+            terms: Terms {
+                allowance,
+                ..terms.clone()
+            },
         };
         let answered = comparison.run(&image, &lent, model);
         if let Some(ended) = ended {
@@ -86,7 +87,7 @@ fn every_allowance(
             ended = Some(answered);
         } else {
             assert_eq!(answered.0.steps, allowance, "{model}");
-            if allowance == most {
+            if allowance == terms.allowance {
                 return answered.0;
             }
         }
@@ -104,16 +105,21 @@ fn known_models() {
         (model_c(), 6),
         (rings(&[2, 3, 5]), 219),
     ] {
-        let answer = every_allowance(
-            &mut comparison,
-            &mut seen,
-            &mut random,
-            &model,
-            (64, 64),
-            &[],
-            u64::MAX,
-        );
-        assert_eq!(answer.steps, steps, "{model}");
+        for edition in EDITIONS {
+            let terms = Terms {
+                edition,
+                ..Terms::plain(u64::MAX)
+            };
+            let answer = every_allowance(
+                &mut comparison,
+                &mut seen,
+                &mut random,
+                &model,
+                (64, 64),
+                &terms,
+            );
+            assert_eq!(answer.steps, steps, "{model}");
+        }
     }
     println!("known models with every allowance: {seen:?}");
     assert!(seen.entered > 0 && seen.rose > 0 && seen.left > 0);
@@ -128,12 +134,16 @@ fn random_models() {
     while models < MODELS {
         let model = run_model(&mut random);
         let affordable = affordable_steps(&model, 100_000).min(400);
-        let earlier = Earlier::new(&model.image(), &[], affordable);
+        let earlier = Earlier::new(&model.image(), Terms::plain(affordable));
         if earlier.answer.steps < 16 {
             continue;
         }
         models += 1;
-        let hints = hints(&mut random, &model, &earlier.blocks);
+        let terms = Terms {
+            hints: hints(&mut random, &model, &earlier.blocks),
+            edition: random.pick(&EDITIONS),
+            ..Terms::plain(affordable)
+        };
         let (held, level) = (earlier.most_held, earlier.answer.level as usize);
         let rooms = match random.below(4) {
             0 => (held / 2, level + 1),
@@ -146,8 +156,7 @@ fn random_models() {
             &mut random,
             &model,
             rooms,
-            &hints,
-            affordable,
+            &terms,
         );
         ends[answer.number as usize] += 1;
     }

@@ -1,5 +1,5 @@
-//! Models of up to 8 states: with 2^n places a room and 4^(n+1) steps every run has a verdict, with any
-//! hints, and it is the one that a search over all cases gives.
+//! Models of up to 8 states: with 2^n places a room and 4^(n+1) steps every run has a verdict of its
+//! edition, with any hints, and it is the one that a search over all cases gives.
 
 use afa_tests::compare::run::Comparison;
 use afa_tests::generate::hints::{hints, passing_hints};
@@ -7,25 +7,30 @@ use afa_tests::generate::runs::{run_model_of, Earlier};
 use afa_tests::image::{rings, Model};
 use afa_tests::random::Random;
 use afa_tests::search::assert_right;
-use afa_tests::tables::{Answer, Lent, Tables};
+use afa_tests::tables::{Answer, Lent, Tables, Terms, EDITIONS};
 
 const MODELS: usize = 12_000;
+
+/// 4^(n+1) steps, without hints.
+fn enough(model: &Model, edition: u64) -> Terms {
+    Terms {
+        edition,
+        ..Terms::plain(4 << (2 * model.states))
+    }
+}
 
 fn assert_verdict(
     comparison: &mut Comparison,
     random: &mut Random,
     model: &Model,
-    hints: Vec<u64>,
+    terms: Terms,
 ) -> Answer {
     let places = 1 << model.states;
-    let lent = Lent {
-        before: Tables::filled(random, places, places),
-        hints,
-        allowance: 4 << (2 * model.states),
-    };
+    let before = Tables::filled(random, places, places);
+    let lent = Lent { before, terms };
     let (answer, after) = comparison.run(&model.image(), &lent, model);
-    assert_right(model, &answer, &after);
-    assert!(answer.steps <= lent.allowance, "{model}\n{answer:?}");
+    assert_right(model, lent.terms.edition, &answer, &after);
+    assert!(answer.steps <= lent.terms.allowance, "{model}\n{answer:?}");
     answer
 }
 
@@ -38,25 +43,33 @@ fn up_to_8_states() {
     while models < MODELS {
         let (states, symbols) = (random.within(1..=8), random.within(1..=3));
         let model = run_model_of(&mut random, states, symbols);
-        let earlier = Earlier::new(&model.image(), &[], u64::MAX);
+        let earlier = Earlier::new(&model.image(), Terms::plain(u64::MAX));
         if earlier.answer.steps < 4 && random.chance(80) {
             continue;
         }
         models += 1;
-        let plain = assert_verdict(&mut comparison, &mut random, &model, Vec::new());
+        let edition = random.pick(&EDITIONS);
+        let mut verdict = |random: &mut Random, hints| {
+            let terms = Terms {
+                hints,
+                ..enough(&model, edition)
+            };
+            assert_verdict(&mut comparison, random, &model, terms)
+        };
+        let plain = verdict(&mut random, Vec::new());
         let hints = hints(&mut random, &model, &earlier.blocks);
-        assert_verdict(&mut comparison, &mut random, &model, hints);
+        verdict(&mut random, hints);
         if models % 8 == 0 {
             let hints = passing_hints(&mut random, &model.image(), 60);
             let count = hints.len() as u64;
-            let hinted = assert_verdict(&mut comparison, &mut random, &model, hints);
+            let hinted = verdict(&mut random, hints);
             assert_eq!(hinted.hints_accepted, count, "{model}");
         }
         long_words += usize::from(plain.number == 1 && plain.level >= 4);
     }
     let seen = comparison.seen;
     println!("{MODELS} models, {long_words} with a shortest word of 4 or more: {seen}");
-    assert!(seen.by_number[0] > 5_000 && seen.by_number[1] > 5_000);
+    assert!(seen.times(0) > 5_000 && seen.times(1) > 5_000 && seen.times(5) > 40);
     assert!(long_words > 500 && seen.by_hint > 2_000);
     assert!(seen.left_before > 50 && seen.left_behind > 50);
 }
@@ -72,7 +85,10 @@ fn three_states_with_one_row_each() {
         let rows = [0, 1, 2].map(|state| (state as u8, case(state)));
         let (initial, final_set) = (number as u64 % 8, number as u64 / 8 % 8);
         let model = Model::new(3, initial, final_set, &[&rows]);
-        assert_verdict(&mut comparison, &mut random, &model, Vec::new());
+        for edition in EDITIONS {
+            let terms = enough(&model, edition);
+            assert_verdict(&mut comparison, &mut random, &model, terms);
+        }
     }
     println!("three states with one row each: {}", comparison.seen);
 }
@@ -85,11 +101,17 @@ fn every_two_rings() {
     for one in 1..=7 {
         for other in 1..=8 - one {
             let model = rings(&[one, other]);
-            let answer = assert_verdict(&mut comparison, &mut random, &model, Vec::new());
-            // Where both are at their last state, one before a common multiple.
-            assert_eq!(answer.number, 1, "{model}");
-            let length = answer.level as usize + 1;
-            assert!(length.is_multiple_of(one) && length.is_multiple_of(other));
+            for edition in EDITIONS {
+                let terms = enough(&model, edition);
+                let answer = assert_verdict(&mut comparison, &mut random, &model, terms);
+                // In rings of one state the first is the last.
+                let final_start = edition == 2 && (one, other) == (1, 1);
+                let expected = if final_start { 5 } else { 1 };
+                assert_eq!(answer.number, expected, "{model}");
+                // Where both are at their last state, one before a common multiple.
+                let length = answer.level as usize + 1;
+                assert!(length.is_multiple_of(one) && length.is_multiple_of(other));
+            }
         }
     }
 }

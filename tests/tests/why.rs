@@ -11,7 +11,7 @@ use afa_tests::guarded::{ReadOnly, Writable, EDGES};
 use afa_tests::image::{all_states, model_a, model_b, model_c, rings, Model};
 use afa_tests::machine;
 use afa_tests::random::Random;
-use afa_tests::tables::{Answer, Lent, Tables};
+use afa_tests::tables::{Answer, Lent, Tables, Terms};
 use afa_tests::why::Question;
 
 /// A level of 1 or more that blockers can have.
@@ -462,8 +462,7 @@ fn blockers_of_known_models_step_by_step() {
         for allowance in (0..).step_by(every) {
             let lent = Lent {
                 before: Tables::filled(&mut random, 500, 500),
-                hints: Vec::new(),
-                allowance,
+                terms: Terms::plain(allowance),
             };
             let left = runs.run(&model.image(), &lent, &model);
             ask_of_a_run(&mut comparison, &mut random, &model, &left, 24);
@@ -485,7 +484,7 @@ fn blockers_of_random_models() {
     while models < 250 {
         let model = run_model(&mut random);
         let affordable = affordable_steps(&model, 100_000);
-        let earlier = Earlier::new(&model.image(), &[], affordable);
+        let earlier = Earlier::new(&model.image(), Terms::plain(affordable));
         if earlier.answer.steps < 12 {
             continue;
         }

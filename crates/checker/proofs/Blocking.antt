@@ -11,7 +11,7 @@ use Rattle.automata.specs.declared.image.Head.{Head}
 use Rattle.machine.specs.Machine.{Blocker, Pending, Configuration, hintAt, chosenFrom, chosen, byStates, finalPending, pendingAfter, blockStep, blockersLack, judge}
 use Rattle.machine.specs.Machine as Machine
 use Rattle.machine.specs.Lent.{BlockerRoom, roomOf, unstampedRoom, blockersFrom, blockersIn, pendingFirst, columnBack, caseOf, symbolOf, placed}
-use Rattle.machine.specs.Runs.{systemOf, givenOf, numberOf, casesIn, symbolsIn, tablesAfter}
+use Rattle.machine.specs.Runs.{systemOf, numberOf, casesIn, symbolsIn, tablesAfter}
 use Rattle.machine.specs.Records.{Stage, configurationOf, pendingOf, recordOf, after}
 use Rattle.machine.proofs.Passing.{chosen-is, chosen-hinted}
 use Rattle.machine.proofs.LentTables.{column-back-length, pending-length, read-back-pending, placed-placed, placed-cases, placed-symbols}
@@ -177,7 +177,7 @@ block-holds initial finals ready below choice up enters e = block-fits initial f
 module _ {image : List ℕ} {head : Head} {room : BlockerRoom} {cases symbols : List ℕ} {run : Run} (read : ReadAs image head)
     (ready : Ready (stage room cases symbols run)) (hints : List ℕ) (below X : ℕ) (choice : Choice)
     (chose : choiceOf choice ≡ chosenFrom (systemOf image) (byStates (systemOf image)) (blockersIn (take (run .held) (room .masks)) (take (run .held) (room .levels))) below X (hintAt hints (run .blocks))) where
-  chosen-here : chosen (systemOf image) (givenOf image (hintsOf hints)) (configurationOf (stage room cases symbols run)) below X ≡ choiceOf choice
+  chosen-here : chosen (systemOf image) (hintsOf image hints) (configurationOf (stage room cases symbols run)) below X ≡ choiceOf choice
   unfolding chosen
   chosen-here = sym (chose ∙ same-chosen (systemOf image) (part-alike (ready-holds ready) (initialOf image)) below X (hintAt hints (run .blocks)))
 
@@ -188,7 +188,7 @@ module _ {image : List ℕ} {head : Head} {room : BlockerRoom} {cases symbols : 
         few-blocks = ready .blocks-fit;
         few-accepted = ready .hints-fit;
         one-hint = subst (λ (made : Machine.Choice). made .hinted ≤ 1) chosen-here
-            (chosen-hinted (chosen-is (systemOf image) (givenOf image (hintsOf hints)) (configurationOf (stage room cases symbols run)) below X));
+            (chosen-hinted (chosen-is (systemOf image) (hintsOf image hints) (configurationOf (stage room cases symbols run)) below X));
       }
 
   pub block-is : {later : Stage}

@@ -4,7 +4,7 @@ use mathlib.Core.Path.{_≡_, refl, sym, ap, ap₂, subst, _∙_}
 use mathlib.Core.List.{List, _++_}
 use native.Mathlib.Omega.{arith}
 use borrow.Author.Tests.{eq-eqb, ne-eqb, lt-ltb, le-ltb, ltb-false}
-use lib.Dec.{eqb, eqb→eq}
+use lib.Dec.{eqb→eq}
 use lib.ListN.{length, replicate, length-replicate}
 use Rattle.lists.specs.Tests.{_or_, neg}
 use Rattle.lists.proofs.Tests.{is-false, or-left, or-right, neg-neg}
@@ -16,47 +16,67 @@ use Rattle.automata.specs.declared.image.Image.the-variants as Answer
 use Rattle.automata.proofs.WordTests.{answer-valid, answer-head}
 use Rattle.machine.specs.Machine.{Blocker, Next, comesTo}
 use Rattle.machine.specs.Lent.{BlockerRoom, EvenRoom, roomOf, column, placed, eachTable, withTable}
-use Rattle.machine.specs.Runs.{Result, roomsOf, refused, casesIn, symbolsIn, tablesAfter, resultOf, oddRooms, oversize, checkRooms, checkRun, endOf, runWith, runOf}
+use Rattle.machine.specs.Runs.{Terms, Result, roomsOf, refused, casesIn, symbolsIn, tablesAfter, resultOf}
+use Rattle.machine.specs.Runs.{oddRooms, oversize, unknownEdition, checkTerms, checkRun, endOf, runWith, runOf}
 use Rattle.machine.proofs.LentTables.{tables-same, tables-even, placed-whole}
 use Rattle.machine.proofs.RunsKept.{check-fails}
 use Rattle.checker.specs.declared.run.Counts.{Counts}
-use Rattle.checker.specs.Stage.{lentOf, termsOf}
+use Rattle.checker.specs.Stage.{lentOf}
 use Rattle.checker.specs.Whole.{Checked, Cleared, Runnable, resultWith, machineResult}
 
--- the rooms' checks, each from the tests before it
-module _ (masks levels entered cases symbols hints : List ℕ) where
-  pub odd-levels : (length masks ≡ length levels → ⊥) → 30 ≡ checkRooms (lentOf (roomOf masks levels entered) cases symbols) hints 0
-  unfolding checkRooms check oddRooms _or_ neg
+-- the checks of the rooms and the edition, each from the tests before it
+module _ (masks levels entered cases symbols hints : List ℕ) (edition : ℕ) where
+  -- what they answer
+  abbrev answered : ℕ
+  answered = checkTerms (lentOf (roomOf masks levels entered) cases symbols) hints edition 0
+
+  pub odd-levels : (length masks ≡ length levels → ⊥) → 30 ≡ answered
+  unfolding checkTerms check oddRooms _or_ neg
   odd-levels n = rw (ne-eqb _ _ n)
 
   module _ (even : length masks ≡ length levels) where
-    pub odd-entered : (length masks ≡ length entered → ⊥) → 30 ≡ checkRooms (lentOf (roomOf masks levels entered) cases symbols) hints 0
-    unfolding checkRooms check oddRooms _or_ neg
+    pub odd-entered : (length masks ≡ length entered → ⊥) → 30 ≡ answered
+    unfolding checkTerms check oddRooms _or_ neg
     odd-entered n = rw (eq-eqb _ _ even, ne-eqb _ _ n)
 
     module _ (even-entered : length masks ≡ length entered) where
-      pub odd-word : (length cases ≡ length symbols → ⊥) → 30 ≡ checkRooms (lentOf (roomOf masks levels entered) cases symbols) hints 0
-      unfolding checkRooms check oddRooms _or_ neg
+      pub odd-word : (length cases ≡ length symbols → ⊥) → 30 ≡ answered
+      unfolding checkTerms check oddRooms _or_ neg
       odd-word n = rw (eq-eqb _ _ even, eq-eqb _ _ even-entered, ne-eqb _ _ n)
 
       module _ (even-word : length cases ≡ length symbols) where
-        pub over-blockers : 65536 < length masks → 31 ≡ checkRooms (lentOf (roomOf masks levels entered) cases symbols) hints 0
-        unfolding checkRooms check oddRooms oversize _or_ neg
+        pub over-blockers : 65536 < length masks → 31 ≡ answered
+        unfolding checkTerms check oddRooms oversize _or_ neg
         over-blockers l = rw (eq-eqb _ _ even, eq-eqb _ _ even-entered, eq-eqb _ _ even-word, lt-ltb _ _ l)
 
         module _ (few : length masks ≤ 65536) where
-          pub over-word : 65536 < length cases → 31 ≡ checkRooms (lentOf (roomOf masks levels entered) cases symbols) hints 0
-          unfolding checkRooms check oddRooms oversize _or_ neg
+          pub over-word : 65536 < length cases → 31 ≡ answered
+          unfolding checkTerms check oddRooms oversize _or_ neg
           over-word l = rw (eq-eqb _ _ even, eq-eqb _ _ even-entered, eq-eqb _ _ even-word, le-ltb _ _ few, lt-ltb _ _ l)
 
           module _ (few-word : length cases ≤ 65536) where
-            pub over-hints : 65536 < length hints → 31 ≡ checkRooms (lentOf (roomOf masks levels entered) cases symbols) hints 0
-            unfolding checkRooms check oddRooms oversize _or_ neg
+            pub over-hints : 65536 < length hints → 31 ≡ answered
+            unfolding checkTerms check oddRooms oversize _or_ neg
             over-hints l = rw (eq-eqb _ _ even, eq-eqb _ _ even-entered, eq-eqb _ _ even-word, le-ltb _ _ few, le-ltb _ _ few-word, lt-ltb _ _ l)
 
-            pub rooms-pass : length hints ≤ 65536 → 0 ≡ checkRooms (lentOf (roomOf masks levels entered) cases symbols) hints 0
-            unfolding checkRooms check oddRooms oversize _or_ neg
-            rooms-pass l = rw (eq-eqb _ _ even, eq-eqb _ _ even-entered, eq-eqb _ _ even-word, le-ltb _ _ few, le-ltb _ _ few-word, le-ltb _ _ l)
+            -- the rooms pass: what is left is the edition's check
+            module _ (few-hints : length hints ≤ 65536) where
+              rooms-pass : answered ≡ check (unknownEdition edition) 36 0
+              unfolding checkTerms check oddRooms oversize _or_ neg
+              rooms-pass =
+                  rw (eq-eqb _ _ even, eq-eqb _ _ even-entered, eq-eqb _ _ even-word, le-ltb _ _ few, le-ltb _ _ few-word, le-ltb _ _ few-hints)
+
+              pub no-edition : (edition ≡ 1 → ⊥) → (edition ≡ 2 → ⊥) → 36 ≡ answered
+              unfolding check unknownEdition _or_ neg
+              no-edition first second = sym (rooms-pass ∙ rw (ne-eqb _ _ first, ne-eqb _ _ second))
+
+              pub first-edition : edition ≡ 1 → 0 ≡ answered
+              unfolding check unknownEdition _or_ neg
+              first-edition first = sym (rooms-pass ∙ rw first)
+
+              pub second-edition : edition ≡ 2 → 0 ≡ answered
+              unfolding check unknownEdition _or_ neg
+              second-edition second = sym (rooms-pass ∙ rw second)
 
 -- a table of which every place was cleared
 zeros-length : (before after : List ℕ) → after ≡ replicate (length before) 0 → length after ≡ length before
@@ -132,21 +152,22 @@ module _ {image : List ℕ} {head : Head} {room room′ : BlockerRoom} {cases sy
         other-places (length cases) (length cases′) symbols symbols′ (symbolsIn n) (rooms .word-room) (rooms′ .word-room) (cleared .new-symbols),
       )
 
-  pub go-is : (hints : List ℕ) (allowance : ℕ) {counts r : Counts} {end-room : BlockerRoom} {end-cases end-symbols : List ℕ} → r ≡ counts
-      → resultWith counts end-room end-cases end-symbols ≡ machineResult image (lentOf room′ cases′ symbols′) (termsOf hints allowance)
-      → resultWith r end-room end-cases end-symbols ≡ machineResult image (lentOf room cases symbols) (termsOf hints allowance)
+  pub go-is : (terms : Terms) {counts r : Counts} {end-room : BlockerRoom} {end-cases end-symbols : List ℕ} → r ≡ counts
+      → resultWith counts end-room end-cases end-symbols ≡ machineResult image (lentOf room′ cases′ symbols′) terms
+      → resultWith r end-room end-cases end-symbols ≡ machineResult image (lentOf room cases symbols) terms
   unfolding machineResult
-  go-is hints allowance {end-room = er} {end-cases = ec} {end-symbols = es} same e =
+  go-is terms {end-room = er} {end-cases = ec} {end-symbols = es} same e =
       ap (λ (x : Counts). resultWith x er ec es) same
       ∙ e
-      ∙ result-cleared (endOf image (roomsOf (lentOf room′ cases′ symbols′)) (termsOf hints allowance))
-      ∙ ap₂ (λ (b w : ℕ). resultOf (lentOf room cases symbols) (endOf image (record { blockers = b; word = w }) (termsOf hints allowance)))
+      ∙ result-cleared (endOf image (roomsOf (lentOf room′ cases′ symbols′)) terms)
+      ∙ ap₂ (λ (b w : ℕ). resultOf (lentOf room cases symbols) (endOf image (record { blockers = b; word = w }) terms))
       masks-length (zeros-length cases cases′ (cleared .new-cases))
 
 -- what the rooms' checks leave where none applies
-rooms-checked : (room : BlockerRoom) (cases symbols hints : List ℕ) → checkRooms (lentOf room cases symbols) hints 0 ≡ 0 → Checked room cases symbols
-unfolding checkRooms oddRooms oversize
-rooms-checked room cases symbols hints e =
+rooms-checked : (room : BlockerRoom) (cases symbols hints : List ℕ) (edition : ℕ) → checkTerms (lentOf room cases symbols) hints edition 0 ≡ 0
+    → Checked room cases symbols
+unfolding checkTerms oddRooms oversize
+rooms-checked room cases symbols hints edition e =
     let odd = check-fails _ _ _ e in
     let over = check-fails _ _ _ (odd .1) in
     record {
@@ -159,12 +180,12 @@ rooms-checked room cases symbols hints e =
     }
 
 -- a valid image and rooms that pass their checks
-pub run-runnable : (image : List ℕ) (room : BlockerRoom) (cases symbols hints : List ℕ) (answer : Image) → answer ≡ readImage image → (head : Head) → answer ≡ Answer.Valid head
-    → (number : ℕ) → number ≡ checkRooms (lentOf room cases symbols) hints 0 → number ≡ 0 → Runnable image head room cases symbols
-run-runnable image room cases symbols hints answer read head e number rooms z =
+pub run-runnable : (image : List ℕ) (room : BlockerRoom) (cases symbols hints : List ℕ) (edition : ℕ) (answer : Image) → answer ≡ readImage image → (head : Head) → answer ≡ Answer.Valid head
+    → (number : ℕ) → number ≡ checkTerms (lentOf room cases symbols) hints edition 0 → number ≡ 0 → Runnable image head room cases symbols
+run-runnable image room cases symbols hints edition answer read head e number rooms z =
     record {
       image-read = record { valid = answer-valid image answer read head e; read = answer-head image answer read head e };
-      rooms = rooms-checked room cases symbols hints (sym rooms ∙ z);
+      rooms = rooms-checked room cases symbols hints edition (sym rooms ∙ z);
     }
 
 -- the counts of a refused run
@@ -172,36 +193,37 @@ abbrev refusal : ℕ → Counts
 refusal number = record { number = number; steps = 0; level = record { 0 = 0 }; blockers = 0; accepted = 0 }
 
 -- the whole run, by its checks
-module _ (image : List ℕ) (room : BlockerRoom) (cases symbols hints : List ℕ) (allowance : ℕ) (answer : Image) (read : answer ≡ readImage image) where
-  refused-result : (number : ℕ) → (number ≡ 0 → ⊥) → checkRun image (lentOf room cases symbols) (termsOf hints allowance) ≡ number
-      → resultWith (refusal number) room cases symbols ≡ runOf image (lentOf room cases symbols) (termsOf hints allowance)
+module _ (image : List ℕ) (room : BlockerRoom) (cases symbols : List ℕ) (terms : Terms) (answer : Image) (read : answer ≡ readImage image) where
+  refused-result : (number : ℕ) → (number ≡ 0 → ⊥) → checkRun image (lentOf room cases symbols) terms ≡ number
+      → resultWith (refusal number) room cases symbols ≡ runOf image (lentOf room cases symbols) terms
   unfolding runOf runWith refused
   refused-result zero n e = absurd (n refl)
   refused-result (suc number) n e = sym (rw e)
 
   pub run-refuses-image : (number : ℕ) (r : Counts) → answer ≡ Answer.Refused number → r ≡ refusal number
-      → resultWith r room cases symbols ≡ runOf image (lentOf room cases symbols) (termsOf hints allowance)
-  unfolding checkRun readImage readWith checkRooms
+      → resultWith r room cases symbols ≡ runOf image (lentOf room cases symbols) terms
+  unfolding checkRun readImage readWith checkTerms
   run-refuses-image number r e q = at (checkImage image) (sym read ∙ e) refl
     where
       at : (checked : ℕ) → readWith image checked ≡ Answer.Refused number → checkImage image ≡ checked
-          → resultWith r room cases symbols ≡ runOf image (lentOf room cases symbols) (termsOf hints allowance)
+          → resultWith r room cases symbols ≡ runOf image (lentOf room cases symbols) terms
       at zero f c = let z : _≡_ {A = ℕ} 0 1 = cc in absurd (omega arith)
       at (suc checked) f c =
           let z : suc checked ≡ number = cc in
           ap (λ (x : Counts). resultWith x room cases symbols) q
           ∙ refused-result number (λ none. omega (arith, z)) (rw c z)
 
-  module _ (head : Head) (e : answer ≡ Answer.Valid head) (number : ℕ) (rooms : number ≡ checkRooms (lentOf room cases symbols) hints 0) where
-    checked-is : checkRun image (lentOf room cases symbols) (termsOf hints allowance) ≡ number
+  module _ (head : Head) (e : answer ≡ Answer.Valid head) (number : ℕ)
+      (passed : number ≡ checkTerms (lentOf room cases symbols) (terms .hints) (terms .edition) 0) where
+    checked-is : checkRun image (lentOf room cases symbols) terms ≡ number
     unfolding checkRun
-    checked-is = ap (checkRooms (lentOf room cases symbols) hints) (answer-valid image answer read head e) ∙ sym rooms
+    checked-is = ap (checkTerms (lentOf room cases symbols) (terms .hints) (terms .edition)) (answer-valid image answer read head e) ∙ sym passed
 
-    pub run-refuses-rooms : (r : Counts) → (number ≡ 0 → ⊥) → r ≡ refusal number
-        → resultWith r room cases symbols ≡ runOf image (lentOf room cases symbols) (termsOf hints allowance)
-    run-refuses-rooms r n q = ap (λ (x : Counts). resultWith x room cases symbols) q ∙ refused-result number n checked-is
+    pub run-refuses-terms : (r : Counts) → (number ≡ 0 → ⊥) → r ≡ refusal number
+        → resultWith r room cases symbols ≡ runOf image (lentOf room cases symbols) terms
+    run-refuses-terms r n q = ap (λ (x : Counts). resultWith x room cases symbols) q ∙ refused-result number n checked-is
 
-    pub run-goes : (result : Result) → number ≡ 0 → result ≡ machineResult image (lentOf room cases symbols) (termsOf hints allowance)
-        → result ≡ runOf image (lentOf room cases symbols) (termsOf hints allowance)
+    pub run-goes : (result : Result) → number ≡ 0 → result ≡ machineResult image (lentOf room cases symbols) terms
+        → result ≡ runOf image (lentOf room cases symbols) terms
     unfolding runOf runWith machineResult
     run-goes result z made = made ∙ sym (rw (checked-is ∙ z))

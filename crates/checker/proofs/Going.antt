@@ -12,25 +12,24 @@ use Rattle.lists.specs.Lists.{any}
 use Rattle.masks.specs.Sets.{subset}
 use Rattle.automata.specs.Image.{Valid, initialOf, finalOf}
 use Rattle.automata.specs.declared.image.Head.{Head}
-use Rattle.machine.specs.Machine.{Configuration, Next, goesOn, ends, advance, chain, begin, beginning, nonempty}
-use Rattle.machine.specs.Lent.{BlockerRoom, column, columnBack, placed, eachTable, withTable}
-use Rattle.machine.specs.Runs.{Lent, Terms, Result, systemOf, roomsOf, givenOf, numberOf, casesIn, symbolsIn, tablesAfter, resultOf, endOf}
+use Rattle.machine.specs.Machine.{Configuration, Next, goesOn, ends, comesTo, advance, chain, startAnswer, begin, beginning, nonempty, startsFinal}
+use Rattle.machine.specs.Lent.{BlockerRoom, columnBack}
+use Rattle.machine.specs.Runs.{Lent, Terms, Result, systemOf, roomsOf, givenOf, numberOf, casesIn, symbolsIn, resultOf, endOf}
 use Rattle.machine.specs.Records.{Stage, pendingOf, recordOf, stepOf}
 use Rattle.machine.proofs.Passing.{byStates-sound}
 use Rattle.machine.proofs.Steps.{Advanced, tried, advanced, advanced-counts}
 use Rattle.machine.proofs.Chains.{Working, chain-working, each-same}
 use Rattle.machine.proofs.Driving.{one-call-more, calls-counted, calls-suffice}
 use Rattle.machine.proofs.Invariant.{chain-length}
-use Rattle.machine.proofs.LentTables.{tables-even, placed-none}
 use Rattle.machine.proofs.Images.{image-lawful}
-use Rattle.machine.proofs.Judging.{Even, number-low}
+use Rattle.machine.proofs.Judging.{Even, number-low, tables-zero}
 use Rattle.machine.proofs.Language.{Sound}
 use Rattle.machine.proofs.RecordSteps.{shown, Fitting, working-fits, shown-masks, shown-levels, shown-entered, shown-cases, shown-symbols, step-shown}
 use Rattle.blockers.proofs.Closing.{AsLong, long-itself, long-further}
 use Rattle.choices.specs.Found.{ReadAs}
 use Rattle.checker.specs.declared.record.Run.{Run}
-use Rattle.checker.specs.Stage.{lentOf, termsOf, stage, Ready}
-use Rattle.checker.specs.Whole.{Cleared, Runnable, countsIn, resultWith, startRecord, machineResult}
+use Rattle.checker.specs.Stage.{lentOf, recordIn, stage, Ready}
+use Rattle.checker.specs.Whole.{Cleared, Runnable, countsIn, resultWith, startsWith, startRecord, machineResult}
 
 -- the steps that may still be made, and one more while the run works
 unfoldable pub remaining : ℕ → ℕ → ℕ → ℕ
@@ -53,7 +52,7 @@ shown-result lent n = refl
 
 module _ (image : List ℕ) (lent : Lent) (terms : Terms) where
   abbrev afterCalls : ℕ → Next
-  afterCalls count = chain (systemOf image) (roomsOf lent) (begin (systemOf image)) (replicate count (givenOf image terms))
+  afterCalls count = chain (systemOf image) (roomsOf lent) (begin (systemOf image) (terms .edition)) (replicate count (givenOf image terms))
 
   -- the stage shows what the machine has come to by so many calls
   pub record Going (at : Stage) : Type 0 where
@@ -84,7 +83,7 @@ module _ (image : List ℕ) (lent : Lent) (terms : Terms) where
 
     working : Working (systemOf image) (roomsOf lent) (w .to)
     working =
-        chain-working (systemOf image) (image-lawful image valid) (roomsOf lent) (replicate (w .calls) (givenOf image terms))
+        chain-working (systemOf image) (image-lawful image valid) (roomsOf lent) (terms .edition) (replicate (w .calls) (givenOf image terms))
         (each-same (λ g. Sound (systemOf image) (g .grow)) (givenOf image terms) (byStates-sound (systemOf image)) (w .calls)) (w .is)
 
     fits : Fitting lent (w .to)
@@ -108,23 +107,23 @@ module _ (image : List ℕ) (lent : Lent) (terms : Terms) where
     })
 
     -- and the step shows what the machine comes to by one call more
-    module _ {later : Stage} (made : later ≡ stepOf image terms at) where
+    module _ {later : Stage} (made : later ≡ stepOf image (givenOf image terms) at) where
       next : Next
       next = advance (systemOf image) (roomsOf lent) (givenOf image terms) (goesOn (w .to))
 
       later-is : later ≡ shown lent next
       unfolding next
-      later-is = made ∙ ap (stepOf image terms) (w .shows) ∙ step-shown lent even (w .to) fits image terms
+      later-is = made ∙ ap (stepOf image (givenOf image terms)) (w .shows) ∙ step-shown lent even (w .to) fits image (givenOf image terms)
 
       pub going-goes : Going later
       unfolding next
       going-goes =
-          let counted = calls-counted (systemOf image) (roomsOf lent) (givenOf image terms) (w .calls) (w .is) in
+          let counted = calls-counted (systemOf image) (roomsOf lent) (terms .edition) (givenOf image terms) (w .calls) (w .is) in
           record {
             calls = suc (w .calls);
             few = omega (arith, counted .0, counted .1);
             shows = later-is ∙ ap (shown lent) (sym
-                (one-call-more (systemOf image) (roomsOf lent) (givenOf image terms) (w .calls) (begin (systemOf image))
+                (one-call-more (systemOf image) (roomsOf lent) (givenOf image terms) (w .calls) (begin (systemOf image) (terms .edition))
                 ∙ ap (advance (systemOf image) (roomsOf lent) (givenOf image terms)) (w .is)));
           }
 
@@ -152,47 +151,33 @@ module _ (image : List ℕ) (lent : Lent) (terms : Terms) where
       from (goesOn c) e = absurd (not (ap (λ (x : Stage). x .run .answer) (going .shows ∙ ap (shown lent) e)))
       from (ends o) e =
           ap resultFrom (going .shows ∙ ap (shown lent) e) ∙ shown-result lent (ends o)
-          ∙ ap (resultOf lent) (sym (calls-suffice (systemOf image) (roomsOf lent) (givenOf image terms) (going .calls) (going .few) e))
+          ∙ ap (resultOf lent) (sym (calls-suffice (systemOf image) (roomsOf lent) (terms .edition) (givenOf image terms) (going .calls) (going .few) e))
 
   -- the beginning: all places 0, and the start's record, by whether I is a subset of F
   module _ (even : Even lent) {room′ : BlockerRoom} {cases′ symbols′ : List ℕ}
       (cleared : Cleared (lent .room) (lent .cases) (lent .symbols) room′ cases′ symbols′) where
-    no-blockers : withTable (length (lent .room .masks)) [] (lent .room) ≡ eachTable (λ field before. replicate (length before) 0) (lent .room)
-    unfolding withTable column
-    no-blockers =
-        tables-even (λ field before. placed (length (lent .room .masks)) [] before) (λ field before. replicate (length before) 0) (lent .room) (even .blockers)
-        (λ field before e. ap (λ (k : ℕ). placed k [] before) e ∙ placed-none before)
+    -- a record beside cleared tables shows a start that has no blocker, nothing pending and no word
+    start-shown : {run : Run} (n : Next) → recordIn run ≡ recordOf n → comesTo n .table ≡ [] → casesIn n ≡ [] → symbolsIn n ≡ []
+        → stage room′ cases′ symbols′ run ≡ shown lent n
+    start-shown n is table cases symbols =
+        rw (is, cleared .new-room, cleared .new-cases, cleared .new-symbols, tables-zero lent even n table cases symbols)
 
-    emptied : lentOf room′ cases′ symbols′ ≡ tablesAfter (length (lent .room .masks)) (length (lent .cases)) lent (goesOn beginning)
-    unfolding tablesAfter casesIn symbolsIn columnBack beginning
-    emptied =
-        rw (
-          cleared .new-room ∙ sym no-blockers,
-          cleared .new-cases ∙ sym (placed-none (lent .cases)),
-          cleared .new-symbols ∙ sym (placed-none (lent .symbols)),
-          ← even .symbols,
-        )
-
-    start-shown : (b : Bool)
-        → stage room′ cases′ symbols′
-        (record { answer = choose b 1 6; steps = 0; level = record { 0 = 0 }; opened = false; held = 0; pending = 0; blocks = 0; accepted = 0 })
-        ≡ shown lent (choose b (ends (nonempty [] beginning)) (goesOn beginning))
-    unfolding recordOf numberOf pendingOf tablesAfter casesIn symbolsIn columnBack beginning choose
-    start-shown true = ap (λ (tables : Lent). record { tables = tables; run = recordOf (ends (nonempty [] beginning)) }) emptied
-    start-shown false = ap (λ (tables : Lent). record { tables = tables; run = recordOf (goesOn beginning) }) emptied
-
-    pub going-starts : (head : Head) → ReadAs image head → {run : Run} → run ≡ startRecord (head .initial) (head .finals)
+    pub going-starts : (head : Head) → ReadAs image head → {run : Run} → run ≡ startRecord (head .initial) (head .finals) (terms .edition)
         → Going (stage room′ cases′ symbols′ run)
-    unfolding startRecord begin any _or_ chain
+    unfolding startRecord begin startAnswer any _or_ chain recordOf numberOf pendingOf casesIn symbolsIn columnBack beginning choose
     going-starts head read {run} begins =
-        record { calls = 0; few = omega arith; shows = rw (begins, read .read) (at (subset (initialOf image) (finalOf image))) }
+        record {
+          calls = 0;
+          few = omega arith;
+          shows = rw (begins, read .read) (at (subset (initialOf image) (finalOf image)) (eqb (terms .edition) 2));
+        }
       where
-        at : (b : Bool)
-            → stage room′ cases′ symbols′
-            (record { answer = choose b 1 6; steps = 0; level = record { 0 = 0 }; opened = false; held = 0; pending = 0; blocks = 0; accepted = 0 })
-            ≡ shown lent (choose (b or false) (ends (nonempty [] beginning)) (goesOn beginning))
-        at true = start-shown true
-        at false = start-shown false
+        at : (final second : Bool)
+            → stage room′ cases′ symbols′ (startsWith (choose final (choose second 5 1) 6))
+            ≡ shown lent (choose (final or false) (ends (choose second startsFinal (nonempty [] beginning))) (goesOn beginning))
+        at true true = start-shown (ends startsFinal) refl refl refl refl
+        at true false = start-shown (ends (nonempty [] beginning)) refl refl refl refl
+        at false second = start-shown (goesOn beginning) refl refl refl refl
 
 -- the loop: the stage goes on from what was lent, and each table keeps its length
 pub record Driven (image : List ℕ) (head : Head) (lent : Lent) (terms : Terms) (room : BlockerRoom) (cases symbols : List ℕ) (run : Run) : Type 0 where
@@ -205,13 +190,13 @@ pub record Driven (image : List ℕ) (head : Head) (lent : Lent) (terms : Terms)
 runnable-even : {image : List ℕ} {head : Head} (lent : Lent) → Runnable image head (lent .room) (lent .cases) (lent .symbols) → Even lent
 runnable-even lent runnable = record { blockers = runnable .rooms .blocker-room; symbols = runnable .rooms .word-room }
 
-pub drive-starts : {image : List ℕ} {head : Head} {room : BlockerRoom} {cases symbols : List ℕ} (hints : List ℕ) (allowance : ℕ) {run : Run}
-    → Runnable image head room cases symbols → Cleared room cases symbols room cases symbols → run ≡ startRecord (head .initial) (head .finals)
-    → Driven image head (lentOf room cases symbols) (termsOf hints allowance) room cases symbols run
-drive-starts {image} {head} {room} {cases} {symbols} hints allowance runnable cleared begins =
+pub drive-starts : {image : List ℕ} {head : Head} {room : BlockerRoom} {cases symbols : List ℕ} (terms : Terms) {run : Run}
+    → Runnable image head room cases symbols → Cleared room cases symbols room cases symbols → run ≡ startRecord (head .initial) (head .finals) (terms .edition)
+    → Driven image head (lentOf room cases symbols) terms room cases symbols run
+drive-starts {image} {head} {room} {cases} {symbols} terms runnable cleared begins =
     record {
       runnable = runnable;
-      going = going-starts image (lentOf room cases symbols) (termsOf hints allowance)
+      going = going-starts image (lentOf room cases symbols) terms
           (runnable-even (lentOf room cases symbols) runnable) cleared head (runnable .image-read) begins;
       long = long-itself room;
       long-cases = refl;
@@ -233,7 +218,7 @@ module _ {image : List ℕ} {head : Head} {lent : Lent} {terms : Terms} {room : 
   drive-ready six = going-ready image lent terms valid even (driven .going) six (driven .runnable .rooms .few-places)
 
   module _ (six : run .answer ≡ 6) {room′ : BlockerRoom} {cases′ symbols′ : List ℕ} {later : Run}
-      (made : stage room′ cases′ symbols′ later ≡ stepOf image terms (stage room cases symbols run)) where
+      (made : stage room′ cases′ symbols′ later ≡ stepOf image (givenOf image terms) (stage room cases symbols run)) where
     pub drive-goes : AsLong room room′ → length cases′ ≡ length cases → length symbols′ ≡ length symbols
         → Driven image head lent terms room′ cases′ symbols′ later
     drive-goes further c s =

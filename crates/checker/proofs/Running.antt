@@ -5,6 +5,7 @@ use mathlib.Core.Bool.{Bool, true, false}
 use mathlib.Core.List.{List, [], _++_, append-nil}
 use native.Mathlib.Nat.{sub-zero}
 use native.Mathlib.Omega.{arith}
+use borrow.Author.Tests.{ne-eqb}
 use lib.ListN.{length, take, replicate, length-replicate, drop-of-length-le}
 use Rattle.lists.specs.Tests.{choose}
 use Rattle.masks.specs.Sets.{subset}
@@ -14,18 +15,21 @@ use Rattle.machine.proofs.LentTables.{tables-even, placed-none}
 use Rattle.blockers.specs.Room.{over}
 use Rattle.blockers.specs.Room as Room
 use Rattle.pending.specs.Room.{Placed as PlacedWord}
-use Rattle.checker.specs.Whole.{Checked, Cleared, startRecord}
+use Rattle.checker.specs.Whole.{Checked, Cleared, startsWith, startRecord}
 
--- the start's record, by the test
-pub start-final : (initial finals : ℕ) (b : Bool) → b ≡ subset initial finals → b ≡ true
-    → record { answer = 1; steps = 0; level = record { 0 = 0 }; opened = false; held = 0; pending = 0; blocks = 0; accepted = 0 } ≡ startRecord initial finals
-unfolding startRecord choose
-start-final initial finals b e t = rw (← e, t)
+-- the start's record, by the test and the edition
+module _ (initial finals edition : ℕ) (b : Bool) (e : b ≡ subset initial finals) where
+  pub start-final : b ≡ true → (edition ≡ 2 → ⊥) → startsWith 1 ≡ startRecord initial finals edition
+  unfolding startRecord choose
+  start-final t first = rw (← e, t, ne-eqb _ _ first)
 
-pub start-works : (initial finals : ℕ) (b : Bool) → b ≡ subset initial finals → b ≡ false
-    → record { answer = 6; steps = 0; level = record { 0 = 0 }; opened = false; held = 0; pending = 0; blocks = 0; accepted = 0 } ≡ startRecord initial finals
-unfolding startRecord choose
-start-works initial finals b e t = rw (← e, t)
+  pub start-final-second : b ≡ true → edition ≡ 2 → startsWith 5 ≡ startRecord initial finals edition
+  unfolding startRecord choose
+  start-final-second t second = rw (← e, t, second)
+
+  pub start-works : b ≡ false → startsWith 6 ≡ startRecord initial finals edition
+  unfolding startRecord choose
+  start-works t = rw (← e, t)
 
 -- a table of which every place was cleared
 all-cleared : (before : List ℕ) → over (take 0 before ++ replicate (length before - 0) 0) before ≡ replicate (length before) 0

@@ -8,7 +8,6 @@ use native.Mathlib.Numerals.{add-one}
 use native.Mathlib.Omega.{arith}
 use lib.Dec.{T}
 use lib.ListN.{length, take, getD}
-use Rattle.lists.specs.Tests.{_or_}
 use Rattle.lists.specs.Lists.{firstFrom}
 use Rattle.lists.proofs.Tests.{fails, or-right, neg-fails, fails-neg}
 use Rattle.lists.proofs.Lists.{first-from-some}
@@ -20,7 +19,7 @@ use Rattle.machine.specs.System.{System}
 use Rattle.machine.specs.Machine.{Blocker, Pending, Configuration, Given, oneMore, blocked, settled, qualifies, wordOf, extendStep, workOn, workStep, stepOn, step}
 use Rattle.machine.specs.Machine.{Step, nonempty, goesOn, ends, judge}
 use Rattle.machine.specs.Lent.{BlockerRoom, blockersIn, pendingFirst}
-use Rattle.machine.specs.Runs.{systemOf, givenOf, roomsOf, numberOf, casesIn, symbolsIn}
+use Rattle.machine.specs.Runs.{systemOf, roomsOf, numberOf, casesIn, symbolsIn}
 use Rattle.machine.specs.Records.{Stage, configurationOf, pendingOf, recordOf, after}
 use Rattle.machine.proofs.LentTables.{blockers-length, pending-length}
 use Rattle.machine.proofs.Unstamped.{same-qualifies}
@@ -108,11 +107,11 @@ module _ {image : List ℕ} {head : Head} {room : BlockerRoom} {cases symbols : 
     pub work-blocks : {later : Stage} → found ≡ Nothing
         → later ≡ madeBy (blockOf image hints (pendingFirst cases symbols (run .pending - 1)) (run .level .0 - run .pending) (getD cases (run .pending - 1) 0))
         (stage room cases symbols run)
-        → later ≡ madeBy (step (systemOf image) (givenOf image (hintsOf hints))) (stage room cases symbols run)
+        → later ≡ madeBy (step (systemOf image) (hintsOf image hints)) (stage room cases symbols run)
     unfolding madeBy blockOf workOn S c lowest rest below X
     work-blocks nothing made =
         made ∙ ap (λ (st : Step). after (stage room cases symbols run) (judge (roomsOf (stage room cases symbols run .tables)) (configurationOf (stage room cases symbols run)) st))
-        (sym (worked (givenOf image (hintsOf hints)) none (found-none _ _ _ (sym found-is ∙ nothing))))
+        (sym (worked (hintsOf image hints) none (found-none _ _ _ (sym found-is ∙ nothing))))
 
     module _ (symbol : Symbol) (case : ℕ) (is : found ≡ At symbol case) where
       some-found : first ≡ some (symbol .0)
@@ -126,9 +125,9 @@ module _ {image : List ℕ} {head : Head} {room : BlockerRoom} {cases symbols : 
 
       -- the step extends
       extends-by : (b : Bool) → subset (head .initial) case ≡ b
-          → step S (givenOf image (hintsOf hints)) c ≡ extendStep S c lowest rest (symbol .0) b
+          → step S (hintsOf image hints) c ≡ extendStep S c lowest rest (symbol .0) b
       unfolding workOn S X c lowest
-      extends-by b e = worked (givenOf image (hintsOf hints)) (some (symbol .0)) some-found ∙ ap (extendStep S c lowest rest (symbol .0)) (sym test-is ∙ e)
+      extends-by b e = worked (hintsOf image hints) (some (symbol .0)) some-found ∙ ap (extendStep S c lowest rest (symbol .0)) (sym test-is ∙ e)
 
       -- at level 0 a backward set that qualifies contains I, so one that does not is pending above level 0
       pub pend-room : subset (head .initial) case ≡ false → HoldsWord (run .pending + 1) cases symbols
@@ -150,7 +149,7 @@ module _ {image : List ℕ} {head : Head} {room : BlockerRoom} {cases symbols : 
       module _ {cases′ symbols′ : List ℕ} {r : Run} where
         finds : subset (head .initial) case ≡ true
             → Leaves run (countedOf run 1 0) [] (symbol .0 ∷ wordOf (pendingFirst cases symbols (run .pending))) r cases symbols cases′ symbols′
-            → stage room cases′ symbols′ r ≡ madeBy (step (systemOf image) (givenOf image (hintsOf hints))) (stage room cases symbols run)
+            → stage room cases′ symbols′ r ≡ madeBy (step (systemOf image) (hintsOf image hints)) (stage room cases symbols run)
         unfolding madeBy judge extendStep casesIn symbolsIn recordOf numberOf pendingOf S c table here
         finds inside leaves =
             word-changes ready (ends (nonempty (symbol .0 ∷ wordOf (lowest ∷ rest)) (oneMore c table (run .level .0) (run .opened) []))) refl
@@ -161,7 +160,7 @@ module _ {image : List ℕ} {head : Head} {room : BlockerRoom} {cases symbols : 
         pends : subset (head .initial) case ≡ false
             → LeavesPending run (countedOf run 6 (run .pending + 1)) (record { case = case; symbol = symbol .0 } ∷ pendingFirst cases symbols (run .pending)) r
             cases symbols cases′ symbols′
-            → stage room cases′ symbols′ r ≡ madeBy (step (systemOf image) (givenOf image (hintsOf hints))) (stage room cases symbols run)
+            → stage room cases′ symbols′ r ≡ madeBy (step (systemOf image) (hintsOf image hints)) (stage room cases symbols run)
         unfolding madeBy judge extendStep casesIn symbolsIn recordOf numberOf pendingOf S c table here X lowest rest
         pends outside leaves =
             let now-pending : List Pending = record { case = S .backward (symbol .0) X; symbol = symbol .0 } ∷ lowest ∷ rest in
@@ -174,12 +173,12 @@ module _ {image : List ℕ} {head : Head} {room : BlockerRoom} {cases symbols : 
 
         pub work-extends : Extended (subset (head .initial) case) run (record { case = case; symbol = symbol .0 }) (pendingFirst cases symbols (run .pending)) r
             cases symbols cases′ symbols′
-            → stage room cases′ symbols′ r ≡ madeBy (step (systemOf image) (givenOf image (hintsOf hints))) (stage room cases symbols run)
+            → stage room cases′ symbols′ r ≡ madeBy (step (systemOf image) (hintsOf image hints)) (stage room cases symbols run)
         work-extends = at (subset (head .initial) case) refl
           where
             at : (b : Bool) → subset (head .initial) case ≡ b
                 → Extended b run (record { case = case; symbol = symbol .0 }) (pendingFirst cases symbols (run .pending)) r cases symbols cases′ symbols′
-                → stage room cases′ symbols′ r ≡ madeBy (step (systemOf image) (givenOf image (hintsOf hints))) (stage room cases symbols run)
+                → stage room cases′ symbols′ r ≡ madeBy (step (systemOf image) (hintsOf image hints)) (stage room cases symbols run)
             at true e leaves = finds e leaves
             at false e leaves = pends e leaves
 

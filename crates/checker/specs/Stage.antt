@@ -1,5 +1,5 @@
 -- The checker's record and tables as the machine's stage, and what its functions leave of them. Assumes nothing: these are definitions.
-use Prim.Native.Nat.{ℕ, _+_, _-_, _≤_, _<_}
+use Prim.Native.Nat.{ℕ, _+_, _≤_, _<_}
 use mathlib.Core.Path.{_≡_}
 use mathlib.Core.Bool.{Bool, true, false}
 use mathlib.Core.List.{List, [], _∷_}
@@ -7,9 +7,9 @@ use lib.ListN.{length}
 use Rattle.lists.specs.Tests.{choose}
 use Rattle.automata.specs.Image.{initialOf, finalOf}
 use Rattle.machine.specs.System.{System}
-use Rattle.machine.specs.Machine.{Pending, Configuration, Step, judge, wordOf, blockStep, chosen}
+use Rattle.machine.specs.Machine.{Pending, Configuration, Given, Step, judge, wordOf, blockStep, chosen}
 use Rattle.machine.specs.Lent.{BlockerRoom, EvenRoom, columnBack, caseOf, symbolOf, placed}
-use Rattle.machine.specs.Runs.{Lent, Terms, systemOf, roomsOf, givenOf}
+use Rattle.machine.specs.Runs.{Lent, Terms, systemOf, roomsOf, stepGiven}
 use Rattle.machine.specs.Records.{RunRecord, Stage, configurationOf, after}
 use Rattle.blockers.specs.Room.{tableOf, Placed}
 use Rattle.closing.specs.Close.{isEmpty, emptyLevel, closedBy}
@@ -18,12 +18,12 @@ use Rattle.checker.specs.declared.record.Run.{Run}
 abbrev pub lentOf : BlockerRoom → List ℕ → List ℕ → Lent
 lentOf room cases symbols = record { room = room; cases = cases; symbols = symbols }
 
-abbrev pub termsOf : List ℕ → ℕ → Terms
-termsOf hints allowance = record { hints = hints; allowance = allowance }
+abbrev pub termsOf : List ℕ → ℕ → ℕ → Terms
+termsOf hints allowance edition = record { hints = hints; allowance = allowance; edition = edition }
 
--- the terms of a step whose allowance was tested: it looks at the hints alone
-abbrev pub hintsOf : List ℕ → Terms
-hintsOf hints = termsOf hints 0
+-- what a step is given whose allowance was tested: it looks at the hints alone
+abbrev pub hintsOf : List ℕ → List ℕ → Given
+hintsOf image hints = stepGiven image hints 0
 
 -- the struct as the machine's record
 abbrev pub recordIn : Run → RunRecord
@@ -49,7 +49,7 @@ madeBy make at = after at (judge (roomsOf (at .tables)) (configurationOf at) (ma
 -- the block of the lowest pending case X, which is one level above `below`; the cases above it are `rest`
 unfoldable pub blockOf : List ℕ → List ℕ → List Pending → ℕ → ℕ → Configuration → Step
 blockOf image hints rest below X c =
-    blockStep (initialOf image) (finalOf image ∷ []) c rest below (chosen (systemOf image) (givenOf image (hintsOf hints)) c below X)
+    blockStep (initialOf image) (finalOf image ∷ []) c rest below (chosen (systemOf image) (hintsOf image hints) c below X)
 
 -- What a step needs of the tables and the record: the places in use are there, the rooms' tables are of one length and have at most 65,536 places, no
 -- more cases are pending than there are levels, and no more blocks or hints accepted than steps.

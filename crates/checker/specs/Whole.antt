@@ -3,12 +3,13 @@ use Prim.Native.Nat.{ℕ, _≤_}
 use mathlib.Core.Path.{_≡_}
 use mathlib.Core.Bool.{false}
 use mathlib.Core.List.{List}
-use lib.ListN.{length, replicate}
+use lib.Dec.{eqb}
+use lib.ListN.{length}
 use Rattle.lists.specs.Tests.{choose}
 use Rattle.masks.specs.Sets.{subset}
 use Rattle.automata.specs.declared.image.Head.{Head}
-use Rattle.machine.specs.Lent.{BlockerRoom, EvenRoom, eachTable}
-use Rattle.machine.specs.Runs.{Lent, Terms, Result, roomsOf, resultOf, endOf}
+use Rattle.machine.specs.Lent.{BlockerRoom, EvenRoom}
+use Rattle.machine.specs.Runs.{Lent, zeroed, Terms, Result, roomsOf, resultOf, endOf}
 use Rattle.choices.specs.Found.{ReadAs}
 use Rattle.checker.specs.Stage.{lentOf}
 use Rattle.checker.specs.declared.record.Run.{Run}
@@ -43,14 +44,14 @@ pub record Checked (room : BlockerRoom) (cases symbols : List ℕ) : Type 0 wher
 
 -- every place holds 0
 pub record Cleared (room : BlockerRoom) (cases symbols : List ℕ) (room′ : BlockerRoom) (cases′ symbols′ : List ℕ) : Type 0 where
-  pub new-room : room′ ≡ eachTable (λ field before. replicate (length before) 0) room
-  pub new-cases : cases′ ≡ replicate (length cases) 0
-  pub new-symbols : symbols′ ≡ replicate (length symbols) 0
+  pub new-room : room′ ≡ zeroed (lentOf room cases symbols) .room
+  pub new-cases : cases′ ≡ zeroed (lentOf room cases symbols) .cases
+  pub new-symbols : symbols′ ≡ zeroed (lentOf room cases symbols) .symbols
 
--- "Start: if I is a subset of F, answer 1 with the empty word and 0 steps. Otherwise steps follow", with the level 0, no blockers and nothing pending
-unfoldable pub startRecord : ℕ → ℕ → Run
-startRecord initial finals = record {
-  answer = choose (subset initial finals) 1 6;
+-- a record at the start, with this answer: "The level N begins at 0, with no blockers and nothing pending."
+abbrev pub startsWith : ℕ → Run
+startsWith answer = record {
+  answer = answer;
   steps = 0;
   level = record { 0 = 0 };
   opened = false;
@@ -59,6 +60,10 @@ startRecord initial finals = record {
   blocks = 0;
   accepted = 0;
 }
+
+-- "Start: if I is a subset of F, answer 1 with the empty word and 0 steps", in edition 2 5; "Otherwise steps follow"
+unfoldable pub startRecord : ℕ → ℕ → ℕ → Run
+startRecord initial finals edition = startsWith (choose (subset initial finals) (choose (eqb edition 2) 5 1) 6)
 
 -- what the machine's run needs: a valid image's head, and rooms that have passed their checks
 pub record Runnable (image : List ℕ) (head : Head) (room : BlockerRoom) (cases symbols : List ℕ) : Type 0 where

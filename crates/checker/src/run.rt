@@ -6,7 +6,7 @@ use automata::image::Image;
 use blockers::Level;
 ghost use mathlib.Core.Path.{_≡_};
 ghost use Rattle.machine.specs.Lent.{roomOf};
-ghost use Rattle.machine.specs.Runs.{checkRooms, runOf};
+ghost use Rattle.machine.specs.Runs.{checkTerms, runOf};
 ghost use Rattle.checker.specs.Stage.{lentOf, termsOf};
 ghost use Rattle.checker.specs.Whole.{Checked, Cleared, Runnable, startRecord, countsIn, resultWith, machineResult};
 
@@ -32,13 +32,13 @@ fn refuse(number: u64) -> Counts
     }
 }
 
-// The start: 1 with the empty word where I is a subset of F, else a run that works.
-fn begin(head: Head) -> Run
-    ensures { λ r. ⌜ r ≡ startRecord (head .initial) (head .finals) ⌝ }
+// The start: where I is a subset of F, 1 with the empty word, in edition 2 5; else a run that works.
+fn begin(head: Head, edition: u64) -> Run
+    ensures { λ r. ⌜ r ≡ startRecord (head .initial) (head .finals) edition ⌝ }
 {
     let mut answer: u8 = 6;
     if masks::subset(head.initial, head.finals) {
-        answer = 1;
+        answer = if edition == 2 { 5 } else { 1 };
     }
     Run {
         answer,
@@ -67,16 +67,18 @@ fn clear(
     pending::clear(cases, symbols, cases.len());
 }
 
-// 0, or 30 where the tables of one room differ in length, or 31 where a room or the hint table has over 65,536 places.
-fn check_rooms(
+// 0, or 30 where the tables of one room differ in length, or 31 where a room or the hint table has over 65,536 places, or 36 where the edition is
+// neither 1 nor 2.
+fn check_terms(
     masks: &[u64],
     levels: &[u32],
     entered: &[u64],
     cases: &[u64],
     symbols: &[u8],
     hints: &[u64],
+    edition: u64,
 ) -> u64
-    ensures { λ r. ⌜ r ≡ checkRooms (lentOf (roomOf (now (masks .entry)) (now (levels .entry)) (now (entered .entry))) (now (cases .entry)) (now (symbols .entry))) (now (hints .entry)) 0 ⌝ }
+    ensures { λ r. ⌜ r ≡ checkTerms (lentOf (roomOf (now (masks .entry)) (now (levels .entry)) (now (entered .entry))) (now (cases .entry)) (now (symbols .entry))) (now (hints .entry)) edition 0 ⌝ }
 {
     if masks.len() != levels.len() {
         return 30;
@@ -96,7 +98,11 @@ fn check_rooms(
     if 65536 < hints.len() {
         return 31;
     }
-    0
+    match edition {
+        1 => 0,
+        2 => 0,
+        _ => 36,
+    }
 }
 
 // Steps until the run has ended, in tables that hold only 0.
@@ -110,12 +116,13 @@ fn drive(
     symbols: &mut [u8],
     hints: &[u64],
     allowance: u64,
+    edition: u64,
 ) -> Run
     requires { ⌜ Runnable (now image) head (roomOf (now masks) (now levels) (now entered)) (now cases) (now symbols) × Cleared (roomOf (now masks) (now levels) (now entered)) (now cases) (now symbols) (roomOf (now masks) (now levels) (now entered)) (now cases) (now symbols) ⌝ }
     ensures { λ r. ⌜ resultWith (countsIn r) (roomOf (now (masks .exit)) (now (levels .exit)) (now (entered .exit))) (now (cases .exit)) (now (symbols .exit))
-        ≡ machineResult (now (image .entry)) (lentOf (roomOf (now (masks .entry)) (now (levels .entry)) (now (entered .entry))) (now (cases .entry)) (now (symbols .entry))) (termsOf (now (hints .entry)) allowance) ⌝ }
+        ≡ machineResult (now (image .entry)) (lentOf (roomOf (now (masks .entry)) (now (levels .entry)) (now (entered .entry))) (now (cases .entry)) (now (symbols .entry))) (termsOf (now (hints .entry)) allowance edition) ⌝ }
 {
-    let mut run = begin(head);
+    let mut run = begin(head, edition);
     while run.answer == 6 {
         run = step(
             image,
@@ -158,10 +165,11 @@ fn go(
     symbols: &mut [u8],
     hints: &[u64],
     allowance: u64,
+    edition: u64,
 ) -> Counts
     requires { ⌜ Runnable (now image) head (roomOf (now masks) (now levels) (now entered)) (now cases) (now symbols) ⌝ }
     ensures { λ r. ⌜ resultWith r (roomOf (now (masks .exit)) (now (levels .exit)) (now (entered .exit))) (now (cases .exit)) (now (symbols .exit))
-        ≡ machineResult (now (image .entry)) (lentOf (roomOf (now (masks .entry)) (now (levels .entry)) (now (entered .entry))) (now (cases .entry)) (now (symbols .entry))) (termsOf (now (hints .entry)) allowance) ⌝ }
+        ≡ machineResult (now (image .entry)) (lentOf (roomOf (now (masks .entry)) (now (levels .entry)) (now (entered .entry))) (now (cases .entry)) (now (symbols .entry))) (termsOf (now (hints .entry)) allowance edition) ⌝ }
 {
     clear(masks, levels, entered, cases, symbols);
     count_up(drive(
@@ -174,6 +182,7 @@ fn go(
         symbols,
         hints,
         allowance,
+        edition,
     ))
 }
 
@@ -187,14 +196,15 @@ pub fn run(
     symbols: &mut [u8],
     hints: &[u64],
     allowance: u64,
+    edition: u64,
 ) -> Counts
     ensures { λ r. ⌜ resultWith r (roomOf (now (masks .exit)) (now (levels .exit)) (now (entered .exit))) (now (cases .exit)) (now (symbols .exit))
-        ≡ runOf (now (image .entry)) (lentOf (roomOf (now (masks .entry)) (now (levels .entry)) (now (entered .entry))) (now (cases .entry)) (now (symbols .entry))) (termsOf (now (hints .entry)) allowance) ⌝ }
+        ≡ runOf (now (image .entry)) (lentOf (roomOf (now (masks .entry)) (now (levels .entry)) (now (entered .entry))) (now (cases .entry)) (now (symbols .entry))) (termsOf (now (hints .entry)) allowance edition) ⌝ }
 {
     match automata::image::read_image(image) {
         Image::Refused(number) => refuse(number as u64),
         Image::Valid(head) => {
-            let number = check_rooms(masks, levels, entered, cases, symbols, hints);
+            let number = check_terms(masks, levels, entered, cases, symbols, hints, edition);
             if number != 0 {
                 return refuse(number);
             }
@@ -208,6 +218,7 @@ pub fn run(
                 symbols,
                 hints,
                 allowance,
+                edition,
             )
         }
     }

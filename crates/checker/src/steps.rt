@@ -16,12 +16,12 @@ ghost use Rattle.lists.specs.Tests.{choose};
 ghost use Rattle.masks.specs.Sets.{subset as isSubset};
 ghost use Rattle.machine.specs.Machine.{finalPending, pendingAfter, blockStep, wordOf, step as machineStep};
 ghost use Rattle.machine.specs.Lent.{roomOf, unstampedRoom, blockersFrom, blockersIn, pendingFirst};
-ghost use Rattle.machine.specs.Runs.{systemOf, givenOf};
+ghost use Rattle.machine.specs.Runs.{systemOf, stepGiven};
 ghost use Rattle.machine.specs.Records.{stepOf};
 ghost use Rattle.blockers.specs.Room.{Holds, HoldsRoom};
 ghost use Rattle.choices.specs.Found.{ReadAs, choiceOf};
 ghost use Rattle.pending.specs.Room.{Holds as HoldsWord};
-ghost use Rattle.checker.specs.Stage.{stage, termsOf, hintsOf, madeBy, blockOf, Ready, leftOf, countedOf, Leaves, LeavesPending, Opened, Unpends, Extended, ClosesLevel, Pends, Countable};
+ghost use Rattle.checker.specs.Stage.{stage, hintsOf, madeBy, blockOf, Ready, leftOf, countedOf, Leaves, LeavesPending, Opened, Unpends, Extended, ClosesLevel, Pends, Countable};
 
 // The run ends without a verdict, under the number of what it lacks: nothing stays pending.
 fn stop(cases: &mut [u64], symbols: &mut [u8], run: Run, number: u8) -> Run
@@ -270,7 +270,7 @@ fn work(
 ) -> Run
     requires { ⌜ ReadAs (now image) head × Ready (stage (roomOf (now masks) (now levels) (now entered)) (now cases) (now symbols) run) × (1 ≤ run .pending) × (run .steps < 18446744073709551615) ⌝ }
     ensures { λ r. ⌜ stage (roomOf (now (masks .exit)) (now (levels .exit)) (now (entered .exit))) (now (cases .exit)) (now (symbols .exit)) r
-        ≡ madeBy (machineStep (systemOf (now (image .entry))) (givenOf (now (image .entry)) (hintsOf (now (hints .entry)))))
+        ≡ madeBy (machineStep (systemOf (now (image .entry))) (hintsOf (now (image .entry)) (now (hints .entry))))
         (stage (roomOf (now (masks .entry)) (now (levels .entry)) (now (entered .entry))) (now (cases .entry)) (now (symbols .entry)) run) ⌝ }
 {
     let x = cases[run.pending - 1];
@@ -338,7 +338,7 @@ pub(crate) fn step(
 ) -> Run
     requires { ⌜ ReadAs (now image) head × Ready (stage (roomOf (now masks) (now levels) (now entered)) (now cases) (now symbols) run) ⌝ }
     ensures { λ r. ⌜ stage (roomOf (now (masks .exit)) (now (levels .exit)) (now (entered .exit))) (now (cases .exit)) (now (symbols .exit)) r
-        ≡ stepOf (now (image .entry)) (termsOf (now (hints .entry)) allowance) (stage (roomOf (now (masks .entry)) (now (levels .entry)) (now (entered .entry))) (now (cases .entry)) (now (symbols .entry)) run) ⌝ }
+        ≡ stepOf (now (image .entry)) (stepGiven (now (image .entry)) (now (hints .entry)) allowance) (stage (roomOf (now (masks .entry)) (now (levels .entry)) (now (entered .entry))) (now (cases .entry)) (now (symbols .entry)) run) ⌝ }
 {
     if allowance <= run.steps {
         return stop(cases, symbols, run, 2);

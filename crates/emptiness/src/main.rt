@@ -106,6 +106,7 @@ fn main() {
         &mut symbols,
         &hints,
         100000,
+        1,
     );
     print_counts(counts);
     print_tables(counts, &masks, &symbols);

@@ -2,13 +2,15 @@
 -- equally long. Assumes nothing.
 use Prim.Native.Nat.{ℕ, _≤_}
 use mathlib.Core.Path.{_≡_, sym, subst}
-use mathlib.Core.List.{List}
+use mathlib.Core.List.{List, []}
 use native.Mathlib.Omega.{arith}
 use lib.Dec.{T}
 use lib.ListN.{length}
+use Rattle.lists.proofs.Lists.{in-none}
 use Rattle.machine.specs.System.{System}
-use Rattle.machine.specs.Machine.{Outcome, nonempty, empty, stepsLack, blockersLack, wordLacks}
-use Rattle.machine.proofs.Language.{IsVerdict, Word, accepts, Lawful, NoneAccepted, Shortest, SameLanguage, Agree, both-nonempty, both-empty}
+use Rattle.machine.specs.Machine.{Outcome, nonempty, empty, stepsLack, blockersLack, wordLacks, startsFinal}
+use Rattle.machine.proofs.Language.{IsVerdict, AnswersStart, Word, accepts, Lawful, NoneAccepted, Shortest, SameLanguage}
+use Rattle.machine.proofs.Language.{Agree, both-nonempty, both-empty, both-at-start}
 use Rattle.machine.proofs.Verdicts.{closed-none, RightAnswer}
 
 -- either of the two may be named first
@@ -33,21 +35,37 @@ shortest-equal same h h′ = omega (arith, shortest-least same h h′, shortest-
 none-shortest : {S S′ : System} {word : List ℕ} → SameLanguage S S′ → Shortest S word → NoneAccepted S′ → ⊥
 none-shortest {word = word} same h none = let other = accepted-too same h in none word (other .0) (other .1)
 
-module _ {S S′ : System} (lawful : Lawful S) (lawful′ : Lawful S′) (same : SameLanguage S S′) where
-  -- two right verdicts about one language agree
-  pub right-verdicts-agree : (outcome outcome′ : Outcome) → IsVerdict outcome → IsVerdict outcome′ → RightAnswer S outcome
-      → RightAnswer S′ outcome′ → Agree outcome outcome′
-  right-verdicts-agree (nonempty word c) (nonempty word′ c′) v v′ r r′ = both-nonempty (shortest-equal same (r .shortest) (r′ .shortest))
-  right-verdicts-agree (nonempty word c) (empty c′) v v′ r r′ = absurd (none-shortest same (r .shortest) (closed-none S′ lawful′ (c′ .table) r′))
-  right-verdicts-agree (nonempty word c) (stepsLack c′) v v′ r r′ = absurd v′
-  right-verdicts-agree (nonempty word c) (blockersLack c′) v v′ r r′ = absurd v′
-  right-verdicts-agree (nonempty word c) (wordLacks c′) v v′ r r′ = absurd v′
-  right-verdicts-agree (empty c) (nonempty word′ c′) v v′ r r′ =
+-- a run beside one that found the start final found it so too
+at-start-too : {S S′ : System} {edition : ℕ} {outcome : Outcome} → SameLanguage S S′ → RightAnswer S′ edition startsFinal
+    → AnswersStart S edition outcome → Agree outcome startsFinal
+at-start-too same r′ a =
+    let accepted = subst T (sym (same .accepted [] (λ s m. absurd (in-none m)))) (r′ .1) in
+    subst (λ (o : Outcome). Agree o startsFinal) (sym (a (r′ .0) accepted)) both-at-start
+
+agree-symmetric : {outcome outcome′ : Outcome} → Agree outcome outcome′ → Agree outcome′ outcome
+agree-symmetric (both-nonempty e) = both-nonempty (sym e)
+agree-symmetric both-empty = both-empty
+agree-symmetric both-at-start = both-at-start
+
+module _ {S S′ : System} (lawful : Lawful S) (lawful′ : Lawful S′) (same : SameLanguage S S′) (edition : ℕ) where
+  -- two right verdicts about one language agree, within one edition
+  pub right-verdicts-agree : (outcome outcome′ : Outcome) → IsVerdict outcome → IsVerdict outcome′ → RightAnswer S edition outcome
+      → RightAnswer S′ edition outcome′ → AnswersStart S edition outcome → AnswersStart S′ edition outcome′ → Agree outcome outcome′
+  right-verdicts-agree (nonempty word c) (nonempty word′ c′) v v′ r r′ a a′ = both-nonempty (shortest-equal same (r .shortest) (r′ .shortest))
+  right-verdicts-agree (nonempty word c) (empty c′) v v′ r r′ a a′ =
+      absurd (none-shortest same (r .shortest) (closed-none S′ lawful′ (c′ .table) r′))
+  right-verdicts-agree (nonempty word c) (stepsLack c′) v v′ r r′ a a′ = absurd v′
+  right-verdicts-agree (nonempty word c) (blockersLack c′) v v′ r r′ a a′ = absurd v′
+  right-verdicts-agree (nonempty word c) (wordLacks c′) v v′ r r′ a a′ = absurd v′
+  right-verdicts-agree (nonempty word c) startsFinal v v′ r r′ a a′ = at-start-too same r′ a
+  right-verdicts-agree (empty c) (nonempty word′ c′) v v′ r r′ a a′ =
       absurd (none-shortest (same-language-symmetric same) (r′ .shortest) (closed-none S lawful (c .table) r))
-  right-verdicts-agree (empty c) (empty c′) v v′ r r′ = both-empty
-  right-verdicts-agree (empty c) (stepsLack c′) v v′ r r′ = absurd v′
-  right-verdicts-agree (empty c) (blockersLack c′) v v′ r r′ = absurd v′
-  right-verdicts-agree (empty c) (wordLacks c′) v v′ r r′ = absurd v′
-  right-verdicts-agree (stepsLack c) outcome′ v v′ r r′ = absurd v
-  right-verdicts-agree (blockersLack c) outcome′ v v′ r r′ = absurd v
-  right-verdicts-agree (wordLacks c) outcome′ v v′ r r′ = absurd v
+  right-verdicts-agree (empty c) (empty c′) v v′ r r′ a a′ = both-empty
+  right-verdicts-agree (empty c) (stepsLack c′) v v′ r r′ a a′ = absurd v′
+  right-verdicts-agree (empty c) (blockersLack c′) v v′ r r′ a a′ = absurd v′
+  right-verdicts-agree (empty c) (wordLacks c′) v v′ r r′ a a′ = absurd v′
+  right-verdicts-agree (empty c) startsFinal v v′ r r′ a a′ = at-start-too same r′ a
+  right-verdicts-agree (stepsLack c) outcome′ v v′ r r′ a a′ = absurd v
+  right-verdicts-agree (blockersLack c) outcome′ v v′ r r′ a a′ = absurd v
+  right-verdicts-agree (wordLacks c) outcome′ v v′ r r′ a a′ = absurd v
+  right-verdicts-agree startsFinal outcome′ v v′ r r′ a a′ = agree-symmetric (at-start-too (same-language-symmetric same) r a′)

@@ -6,22 +6,24 @@ use mathlib.Core.Bool.{Bool, true, false}
 use mathlib.Core.List.{List, [], _∷_, _++_}
 use mathlib.Core.Logic.{_⊎_, inl, inr}
 use native.Mathlib.Omega.{arith}
-use borrow.Author.Tests.{lt-ltb, le-leb}
+use borrow.Author.Tests.{lt-ltb, le-leb, eqb-true, eqb-false}
+use lib.Dec.{T, eqb}
 use lib.ListN.{length, replicate, length-replicate}
 use Rattle.lists.specs.Tests.{choose}
 use Rattle.lists.specs.Lists.{_∈_, here, Each, any}
+use Rattle.lists.proofs.Tests.{holds, is-false}
 use Rattle.lists.proofs.Lists.{in-none, in-cases, in-left, in-right}
 use Rattle.masks.specs.Sets.{subset}
 use Rattle.machine.specs.System.{System}
 use Rattle.machine.specs.Machine.{Configuration, Given, Rooms, beginning, Step, step}
-use Rattle.machine.specs.Machine.{Next, goesOn, ends, comesTo, judge, advance, chain, begin, Outcome, nonempty}
+use Rattle.machine.specs.Machine.{Next, goesOn, ends, comesTo, judge, advance, chain, startAnswer, begin, Outcome, nonempty, startsFinal}
 use Rattle.machine.specs.Meaning.{Lacks}
-use Rattle.machine.proofs.Language.{Lawful, Sound, Decided, decidedNonempty, IsVerdict}
+use Rattle.machine.proofs.Language.{accepts, Lawful, Sound, Decided, decidedNonempty, decidedAtStart, IsVerdict, AnswersStart}
 use Rattle.machine.proofs.Steps.{Judged, roomToOpen, extended, roomToBlock, closed, found, emptied, noRoomToOpen, noRoomToBlock}
 use Rattle.machine.proofs.Steps.{Advanced, tried, spent, advanced, advanced-counts, advance-made, EndingCall, raise, step-raised}
 use Rattle.machine.proofs.Steps.{chain-keeps, ended-stays, chain-ended-by, works-or-ended, works-once, ends-once, madeBy, step-counts}
 use Rattle.machine.proofs.Invariant.{FinalsClear, beginning-holds}
-use Rattle.machine.proofs.Verdicts.{Holds, RightAnswer, clear-finals, start-right, advanced-right}
+use Rattle.machine.proofs.Verdicts.{Holds, RightAnswer, clear-finals, start-accepts, clear-start, start-found, advanced-right}
 use Rattle.machine.proofs.Standing.{Counted, advanced-counted, beginning-counted}
 use Rattle.machine.proofs.Entering.{Stamped, advanced-stamped, beginning-stamped}
 use Rattle.machine.proofs.Bound.{Bounded, advanced-bounded, advanced-decided, beginning-bounded}
@@ -34,15 +36,16 @@ pub record Working (S : System) (rooms : Rooms) (c : Configuration) : Type 0 whe
   pub stamped : Stamped c
   pub bounded : Bounded S c
 
--- what holds of a run that has ended
-pub record Done (S : System) (rooms : Rooms) (outcome : Outcome) : Type 0 where
-  pub right : RightAnswer S outcome
+-- what holds of a run that was begun in this edition and has ended
+pub record Done (S : System) (rooms : Rooms) (edition : ℕ) (outcome : Outcome) : Type 0 where
+  pub right : RightAnswer S edition outcome
+  pub start : AnswersStart S edition outcome
   pub counted : Counted rooms (comesTo (ends outcome))
   pub stamped : Stamped (comesTo (ends outcome))
 
-abbrev pub Sure : System → Rooms → Next → Type 0
-Sure S rooms (goesOn c) = Working S rooms c
-Sure S rooms (ends outcome) = Done S rooms outcome
+abbrev pub Sure : System → Rooms → ℕ → Next → Type 0
+Sure S rooms edition (goesOn c) = Working S rooms c
+Sure S rooms edition (ends outcome) = Done S rooms edition outcome
 
 -- each call grows soundly
 abbrev pub AllSound : System → List Given → Type 0
@@ -66,18 +69,26 @@ each-same P given p (suc count) g m = at (λ k. each-same P given p count g k) (
 abbrev Within : ℕ → Next → Type 0
 Within most n = comesTo n .steps ≤ most
 
--- "Start: if I is a subset of F, answer 1 with the empty word and 0 steps. Otherwise steps follow."
-data Begun (S : System) : Next → Type 0 where
-  answered : any (subset (S .initial)) (S .finals) ≡ true → Begun S (ends (nonempty [] beginning))
-  started : any (subset (S .initial)) (S .finals) ≡ false → Begun S (goesOn beginning)
+-- "Start: if I is a subset of F, answer 1 with the empty word and 0 steps. Otherwise steps follow." 02, 6: "2 answers such a start by 5"
+data Begun (S : System) (edition : ℕ) : Next → Type 0 where
+  answered : any (subset (S .initial)) (S .finals) ≡ true → (edition ≡ 2 → ⊥) → Begun S edition (ends (nonempty [] beginning))
+  finalAtOnce : any (subset (S .initial)) (S .finals) ≡ true → edition ≡ 2 → Begun S edition (ends startsFinal)
+  started : any (subset (S .initial)) (S .finals) ≡ false → Begun S edition (goesOn beginning)
 
-begin-begun : (S : System) → Begun S (begin S)
-unfolding begin choose
-begin-begun S = at (any (subset (S .initial)) (S .finals)) refl
+begin-begun : (S : System) (edition : ℕ) → Begun S edition (begin S edition)
+unfolding begin startAnswer choose
+begin-begun S edition = at (any (subset (S .initial)) (S .finals)) refl (eqb edition 2) refl
   where
-    at : (b : Bool) → any (subset (S .initial)) (S .finals) ≡ b → Begun S (choose b (ends (nonempty [] beginning)) (goesOn beginning))
-    at true e = answered e
-    at false e = started e
+    at : (b : Bool) → any (subset (S .initial)) (S .finals) ≡ b → (second : Bool) → eqb edition 2 ≡ second
+        → Begun S edition (choose b (ends (choose second startsFinal (nonempty [] beginning))) (goesOn beginning))
+    at true e true f = finalAtOnce e (eqb-true edition 2 f)
+    at true e false f = answered e (eqb-false edition 2 f)
+    at false e second f = started e
+
+-- a start that is not final is the same in each edition
+pub begin-alike : (S : System) → (T (accepts S []) → ⊥) → (edition other : ℕ) → begin S edition ≡ begin S other
+unfolding begin choose
+begin-alike S not-final edition other = rw (sym (start-accepts S) ∙ is-false _ not-final)
 
 module _ (S : System) (rooms : Rooms) where
   -- a call that ends without a verdict lacks steps or room
@@ -118,12 +129,16 @@ module _ (S : System) (rooms : Rooms) where
       at rec (goesOn x) a f = omega (arith, rec x f, advanced-counts S rooms a)
       at rec (ends o) a f = absurd (works-or-ended (sym (sym (ended-stays S rooms o later) ∙ f)))
 
-  pub working-steps : {c : Configuration} (given : List Given) → chain S rooms (begin S) given ≡ goesOn c → c .steps ≡ length given
+  pub working-steps : (edition : ℕ) {c : Configuration} (given : List Given) → chain S rooms (begin S edition) given ≡ goesOn c → c .steps ≡ length given
   unfolding beginning
-  working-steps {c} given = at (begin-begun S)
+  working-steps edition {c} given = at (begin-begun S edition)
     where
-      at : {n : Next} → Begun S n → chain S rooms n given ≡ goesOn c → c .steps ≡ length given
-      at (answered b) e = absurd (works-or-ended (sym (sym (ended-stays S rooms (nonempty [] beginning) given) ∙ e)))
+      over : (o : Outcome) → chain S rooms (ends o) given ≡ goesOn c → ⊥
+      over o e = works-or-ended (sym (sym (ended-stays S rooms o given) ∙ e))
+
+      at : {n : Next} → Begun S edition n → chain S rooms n given ≡ goesOn c → c .steps ≡ length given
+      at (answered b f) e = absurd (over (nonempty [] beginning) e)
+      at (finalAtOnce b f) e = absurd (over startsFinal e)
       at (started b) e = omega (arith, steps-counted beginning given e)
 
   -- no more steps are made than the largest allowance
@@ -148,43 +163,58 @@ module _ (S : System) (rooms : Rooms) where
   call-within most given (goesOn c) l w = advanced-within l w (advanced S rooms given c)
   call-within most given (ends outcome) l w = w
 
-  begin-within : (most : ℕ) → Within most (begin S)
+  begin-within : (most edition : ℕ) → Within most (begin S edition)
   unfolding beginning
-  begin-within most = at (begin-begun S)
+  begin-within most edition = at (begin-begun S edition)
     where
-      at : {n : Next} → Begun S n → Within most n
-      at (answered b) = omega arith
+      at : {n : Next} → Begun S edition n → Within most n
+      at (answered b f) = omega arith
+      at (finalAtOnce b f) = omega arith
       at (started b) = omega arith
 
-  pub chain-within : (most : ℕ) (given : List Given) → Each (λ g. g .allowance ≤ most) given → Within most (chain S rooms (begin S) given)
-  chain-within most given low = chain-keeps S rooms (Within most) (λ g. g .allowance ≤ most) (call-within most) (begin S) given low (begin-within most)
+  pub chain-within : (most edition : ℕ) (given : List Given) → Each (λ g. g .allowance ≤ most) given
+      → Within most (chain S rooms (begin S edition) given)
+  chain-within most edition given low =
+      chain-keeps S rooms (Within most) (λ g. g .allowance ≤ most) (call-within most) (begin S edition) given low (begin-within most edition)
 
   -- calls that are all given the same end a chain at the latest when they are more than their allowance
-  pub chain-ends : (given : Given) → Ended (chain S rooms (begin S) (replicate (suc (given .allowance)) given))
-  chain-ends given = at (chain S rooms (begin S) (replicate (suc (given .allowance)) given)) refl
-      (chain-within (given .allowance) _ (each-same (λ g. g .allowance ≤ given .allowance) given (omega arith) (suc (given .allowance))))
+  pub chain-ends : (edition : ℕ) (given : Given) → Ended (chain S rooms (begin S edition) (replicate (suc (given .allowance)) given))
+  chain-ends edition given = at (chain S rooms (begin S edition) (replicate (suc (given .allowance)) given)) refl
+      (chain-within (given .allowance) edition _ (each-same (λ g. g .allowance ≤ given .allowance) given (omega arith) (suc (given .allowance))))
     where
-      at : (n : Next) → chain S rooms (begin S) (replicate (suc (given .allowance)) given) ≡ n → Within (given .allowance) n → Ended n
-      at (goesOn c) e w = absurd (omega (arith, working-steps _ e, length-replicate (suc (given .allowance)) given))
+      at : (n : Next) → chain S rooms (begin S edition) (replicate (suc (given .allowance)) given) ≡ n → Within (given .allowance) n → Ended n
+      at (goesOn c) e w = absurd (omega (arith, working-steps edition _ e, length-replicate (suc (given .allowance)) given))
       at (ends outcome) e w = record { outcome = outcome; is = refl }
 
   -- a verdict at the start comes at once
-  begin-decided : (most : ℕ) {outcome : Outcome} → begin S ≡ ends outcome → Decided most outcome
+  begin-decided : (most edition : ℕ) {outcome : Outcome} → begin S edition ≡ ends outcome → Decided most outcome
   unfolding beginning
-  begin-decided most {outcome} = at (begin-begun S)
+  begin-decided most edition {outcome} = at (begin-begun S edition)
     where
-      at : {n : Next} → Begun S n → n ≡ ends outcome → Decided most outcome
-      at (answered b) e = subst (λ (o : Outcome). Decided most o) (ends-once e) (decidedNonempty {c = beginning} (omega arith))
+      at : {n : Next} → Begun S edition n → n ≡ ends outcome → Decided most outcome
+      at (answered b f) e = subst (λ (o : Outcome). Decided most o) (ends-once e) (decidedNonempty {c = beginning} (omega arith))
+      at (finalAtOnce b f) e = subst (λ (o : Outcome). Decided most o) (ends-once e) decidedAtStart
       at (started b) e = absurd (works-or-ended e)
 
-module _ (S : System) (lawful : Lawful S) (rooms : Rooms) where
+module _ (S : System) (lawful : Lawful S) (rooms : Rooms) (edition : ℕ) where
   -- at the beginning
-  pub begin-sure : Sure S rooms (begin S)
+  pub begin-sure : Sure S rooms edition (begin S edition)
   unfolding beginning
-  begin-sure = at (begin-begun S)
+  begin-sure = at (begin-begun S edition)
     where
-      at : {n : Next} → Begun S n → Sure S rooms n
-      at (answered e) = record { right = start-right S e; counted = beginning-counted rooms; stamped = beginning-stamped }
+      at : {n : Next} → Begun S edition n → Sure S rooms edition n
+      at (answered e f) = record {
+        right = start-found S e;
+        start = λ second t. absurd (f second);
+        counted = beginning-counted rooms;
+        stamped = beginning-stamped;
+      }
+      at (finalAtOnce e second) = record {
+        right = (second, holds (start-accepts S ∙ e));
+        start = λ second t. refl;
+        counted = beginning-counted rooms;
+        stamped = beginning-stamped;
+      }
       at (started e) = let clear = clear-finals S e in record {
         clear = clear;
         holds = beginning-holds lawful clear;
@@ -194,38 +224,39 @@ module _ (S : System) (lawful : Lawful S) (rooms : Rooms) where
       }
 
   -- after one more call
-  pub call-sure : (given : Given) (n : Next) → Sound S (given .grow) → Sure S rooms n → Sure S rooms (advance S rooms given n)
+  pub call-sure : (given : Given) (n : Next) → Sound S (given .grow) → Sure S rooms edition n → Sure S rooms edition (advance S rooms given n)
   unfolding advance
   call-sure given (goesOn c) sound w = at (advance S rooms given (goesOn c)) (advanced S rooms given c)
     where
-      at : (n : Next) → Advanced S rooms given c n → Sure S rooms n
+      at : (n : Next) → Advanced S rooms given c n → Sure S rooms edition n
       at (goesOn d) a = record {
         clear = w .clear;
-        holds = advanced-right S lawful (w .clear) sound (w .holds) a;
+        holds = advanced-right S lawful (w .clear) edition sound (w .holds) a;
         counted = advanced-counted a (w .counted);
         stamped = advanced-stamped a (w .stamped);
         bounded = advanced-bounded lawful sound (w .holds) (w .bounded) a;
       }
       at (ends outcome) a = record {
-        right = advanced-right S lawful (w .clear) sound (w .holds) a;
+        right = advanced-right S lawful (w .clear) edition sound (w .holds) a;
+        start = λ second t. absurd (clear-start S (w .clear) t);
         counted = advanced-counted a (w .counted);
         stamped = advanced-stamped a (w .stamped);
       }
   call-sure given (ends outcome) sound d = d
 
   -- after a chain of calls
-  chain-sure : (given : List Given) → AllSound S given → Sure S rooms (chain S rooms (begin S) given)
-  chain-sure given sound = chain-keeps S rooms (Sure S rooms) (λ g. Sound S (g .grow)) call-sure (begin S) given sound begin-sure
+  chain-sure : (given : List Given) → AllSound S given → Sure S rooms edition (chain S rooms (begin S edition) given)
+  chain-sure given sound = chain-keeps S rooms (Sure S rooms edition) (λ g. Sound S (g .grow)) call-sure (begin S edition) given sound begin-sure
 
-  pub chain-working : {c : Configuration} (given : List Given) → AllSound S given → chain S rooms (begin S) given ≡ goesOn c → Working S rooms c
-  chain-working given sound e = subst (Sure S rooms) e (chain-sure given sound)
+  pub chain-working : {c : Configuration} (given : List Given) → AllSound S given → chain S rooms (begin S edition) given ≡ goesOn c → Working S rooms c
+  chain-working given sound e = subst (Sure S rooms edition) e (chain-sure given sound)
 
-  pub chain-done : {outcome : Outcome} (given : List Given) → AllSound S given → chain S rooms (begin S) given ≡ ends outcome
-      → Done S rooms outcome
-  chain-done given sound e = subst (Sure S rooms) e (chain-sure given sound)
+  pub chain-done : {outcome : Outcome} (given : List Given) → AllSound S given → chain S rooms (begin S edition) given ≡ ends outcome
+      → Done S rooms edition outcome
+  chain-done given sound e = subst (Sure S rooms edition) e (chain-sure given sound)
 
   -- where a call ended a chain, it worked before
-  pub ended-working : {given : List Given} {outcome : Outcome} → AllSound S given → (by : EndingCall S rooms (begin S) given outcome)
+  pub ended-working : {given : List Given} {outcome : Outcome} → AllSound S given → (by : EndingCall S rooms (begin S edition) given outcome)
       → Working S rooms (by .at)
   ended-working sound by =
       chain-working (by .before)
@@ -234,12 +265,12 @@ module _ (S : System) (lawful : Lawful S) (rooms : Rooms) where
 
   -- with 2^n places in either room and no allowance under 4^(n+1), a chain that works no more has a verdict, after at most 4^(n+1) steps
   pub chain-decided : 2 ^ S .states ≤ rooms .blockers → 2 ^ S .states ≤ rooms .word → {outcome : Outcome} (given : List Given) → AllSound S given
-      → Each (λ g. 4 ^ suc (S .states) ≤ g .allowance) given → chain S rooms (begin S) given ≡ ends outcome
+      → Each (λ g. 4 ^ suc (S .states) ≤ g .allowance) given → chain S rooms (begin S edition) given ≡ ends outcome
       → Decided (4 ^ suc (S .states)) outcome
-  chain-decided places levels {outcome} given sound enough e = at (chain-ended-by S rooms (begin S) given e)
+  chain-decided places levels {outcome} given sound enough e = at (chain-ended-by S rooms (begin S edition) given e)
     where
-      at : (begin S ≡ ends outcome) ⊎ EndingCall S rooms (begin S) given outcome → Decided (4 ^ suc (S .states)) outcome
-      at (inl q) = begin-decided S rooms (4 ^ suc (S .states)) q
+      at : (begin S edition ≡ ends outcome) ⊎ EndingCall S rooms (begin S edition) given outcome → Decided (4 ^ suc (S .states)) outcome
+      at (inl q) = begin-decided S rooms (4 ^ suc (S .states)) edition q
       at (inr by) =
           let w = ended-working sound by in
           advanced-decided lawful rooms places levels (w .clear) (ended-last S rooms (λ g. Sound S (g .grow)) sound by)
@@ -297,11 +328,11 @@ module _ (S : System) (rooms rooms′ : Rooms) (more-blockers : rooms .blockers 
   stays-same (ends outcome) = λ v. refl
 
   -- larger rooms and larger allowances do not change a verdict
-  pub chain-verdict-stays : {given given′ : List Given} {outcome : Outcome} → Raised given given′ → IsVerdict outcome
-      → chain S rooms (begin S) given ≡ ends outcome → chain S rooms′ (begin S) given′ ≡ ends outcome
-  chain-verdict-stays {given} {given′} raised v e =
-      subst (λ (n : Next). Stays n (chain S rooms′ (begin S) given′)) e
-      (chain-stays raised (begin S) (begin S) (stays-same (begin S))) v
+  pub chain-verdict-stays : (edition : ℕ) {given given′ : List Given} {outcome : Outcome} → Raised given given′ → IsVerdict outcome
+      → chain S rooms (begin S edition) given ≡ ends outcome → chain S rooms′ (begin S edition) given′ ≡ ends outcome
+  chain-verdict-stays edition {given} {given′} raised v e =
+      subst (λ (n : Next). Stays n (chain S rooms′ (begin S edition) given′)) e
+      (chain-stays raised (begin S edition) (begin S edition) (stays-same (begin S edition))) v
 
 -- one chain after another is one chain
 pub chain-joined : (S : System) (rooms : Rooms) (n : Next) (given later : List Given) → chain S rooms n (given ++ later) ≡ chain S rooms (chain S rooms n given) later

@@ -1,23 +1,26 @@
 -- A run that has ended keeps the rules by which it is judged, from what holds of its outcome.
 -- Assumes nothing.
-use Prim.Native.Nat.{ℕ, _-_, _≤_}
+use Prim.Native.Nat.{ℕ, _-_, _≤_, _<_}
 use mathlib.Core.Path.{_≡_, refl, sym, ap, subst, _∙_}
-use mathlib.Core.List.{List, [], _++_}
+use mathlib.Core.List.{List, [], _∷_, _++_}
+use mathlib.Core.Logic.{_↔_, inl, inr}
 use native.Mathlib.Omega.{arith}
 use lib.Dec.{T}
 use lib.ListN.{length, replicate}
+use Rattle.lists.proofs.Lists.{in-none}
 use Rattle.automata.specs.Image.{Valid}
 use Rattle.automata.specs.Automaton.{automatonOf, HoldOne}
 use Rattle.automata.specs.Acceptance.{Accepted}
 use Rattle.machine.specs.System.{System}
-use Rattle.machine.specs.Machine.{Blocker, ends, comesTo}
-use Rattle.machine.specs.Machine.{Outcome, nonempty, empty, stepsLack, blockersLack, wordLacks}
+use Rattle.machine.specs.Machine.{Blocker, Configuration, Rooms, beginning, Next, ends, comesTo}
+use Rattle.machine.specs.Machine.{Outcome, nonempty, empty, stepsLack, blockersLack, wordLacks, startsFinal}
 use Rattle.machine.specs.Meaning.{Closed, EnteredInOrder}
 use Rattle.machine.specs.Lent.{BlockerRoom, EvenRoom, column, placed, eachTable, withTable}
-use Rattle.machine.specs.Runs.{Lent, systemOf, roomsOf, numberOf, casesIn, symbolsIn, tablesAfter, resultOf}
-use Rattle.machine.specs.Promises.{heldBy, WordFound, Rules, Agreed}
-use Rattle.machine.proofs.Language.{IsVerdict, Word, accepts, Lawful, Agree, both-nonempty, both-empty, Decided, decidedNonempty, decidedEmpty}
-use Rattle.machine.proofs.Verdicts.{closed-none}
+use Rattle.machine.specs.Runs.{Lent, zeroed, systemOf, roomsOf, numberOf, casesIn, symbolsIn, tablesAfter, resultOf}
+use Rattle.machine.specs.Promises.{heldBy, Alone, WordFound, Rules, Verdict, Agreed}
+use Rattle.machine.proofs.Language.{IsVerdict, Word, accepts, Lawful, Agree, both-nonempty, both-empty, both-at-start}
+use Rattle.machine.proofs.Language.{Decided, decidedNonempty, decidedEmpty, decidedAtStart}
+use Rattle.machine.proofs.Verdicts.{RightAnswer, closed-none}
 use Rattle.machine.proofs.Entering.{Stamped}
 use Rattle.machine.proofs.Chains.{Done}
 use Rattle.machine.proofs.Agreeing.{right-verdicts-agree}
@@ -25,18 +28,35 @@ use Rattle.machine.proofs.LentTables.{tables-even, column-whole, placed
 use Rattle.machine.proofs.Images.{image-lawful, accepted-by-runs, same-language}
 
 -- the number of an end is that of a verdict or a stop
-pub number-low : (o : Outcome) → numberOf (ends o) ≤ 4
+pub number-low : (o : Outcome) → numberOf (ends o) ≤ 5
 unfolding numberOf
 number-low (nonempty word c) = omega arith
 number-low (empty c) = omega arith
 number-low (stepsLack c) = omega arith
 number-low (blockersLack c) = omega arith
 number-low (wordLacks c) = omega arith
+number-low startsFinal = omega arith
 
 -- lent tables of a room are equally long
 pub record Even (lent : Lent) : Type 0 where
   pub blockers : EvenRoom (lent .room)
   pub symbols : length (lent .cases) ≡ length (lent .symbols)
+
+-- where no blocker is held, nothing is pending and no word was found, every place is 0
+module _ (lent : Lent) (even : Even lent) where
+  no-blockers : withTable (length (lent .room .masks)) [] (lent .room) ≡ zeroed lent .room
+  unfolding withTable column
+  no-blockers =
+      tables-even (λ field before. placed (length (lent .room .masks)) [] before) (λ field before. replicate (length before) 0) (lent .room) (even .blockers)
+      (λ field before e. ap (λ (k : ℕ). placed k [] before) e ∙ placed-none before)
+
+  no-symbols : placed (length (lent .cases)) [] (lent .symbols) ≡ zeroed lent .symbols
+  no-symbols = ap (λ (k : ℕ). placed k [] (lent .symbols)) (even .symbols) ∙ placed-none (lent .symbols)
+
+  pub tables-zero : (n : Next) → comesTo n .table ≡ [] → casesIn n ≡ [] → symbolsIn n ≡ []
+      → tablesAfter (length (lent .room .masks)) (length (lent .cases)) lent n ≡ zeroed lent
+  unfolding tablesAfter
+  tables-zero n table cases symbols = rw (table, cases, symbols, no-blockers, placed-none (lent .cases), no-symbols)
 
 module _ (lent : Lent) (even : Even lent) (o : Outcome) where
   -- what the blocker room holds when these blockers stand in it
@@ -77,7 +97,7 @@ module _ (lent : Lent) (even : Even lent) (o : Outcome) where
   unfolding resultOf
   entered-in-order = subst (EnteredInOrder 0 (comesTo (ends o) .steps)) (sym held-end)
 
-module _ (image : List ℕ) (lent : Lent) (valid : Valid image) (even : Even lent) where
+module _ (image : List ℕ) (lent : Lent) (edition : ℕ) (valid : Valid image) (even : Even lent) where
   S : System
   S = systemOf image
 
@@ -87,7 +107,13 @@ module _ (image : List ℕ) (lent : Lent) (valid : Valid image) (even : Even len
   means : (word : List ℕ) → Accepted (automatonOf image) word → Word (systemOf image) word × T (accepts (systemOf image) word)
   means word = accepted-by-runs image valid word .0
 
-  found : (o : Outcome) → Done (systemOf image) (roomsOf lent) o → numberOf (ends o) ≡ 1 → WordFound image lent (resultOf lent (ends o))
+  -- in edition 2 the word that was found is not the empty one, since then the start would have been answered as final
+  not-the-empty-word : (word : List ℕ) {c : Configuration} → Done (systemOf image) (roomsOf lent) edition (nonempty word c) → edition ≡ 2 → 1 ≤ length word
+  unfolding numberOf
+  not-the-empty-word [] d second = absurd (omega (arith, ap (λ (o : Outcome). numberOf (ends o)) (d .start second (d .right .shortest .accepted))))
+  not-the-empty-word (s ∷ word) d second = omega arith
+
+  found : (o : Outcome) → Done (systemOf image) (roomsOf lent) edition o → numberOf (ends o) ≡ 1 → WordFound image lent edition (resultOf lent (ends o))
   unfolding numberOf symbolsIn resultOf
   found (nonempty word c) d e =
       let right = d .right in
@@ -98,21 +124,24 @@ module _ (image : List ℕ) (lent : Lent) (valid : Valid image) (even : Even len
         accepted = accepted-by-runs image valid word .1 (right .shortest .symbols, right .shortest .accepted);
         long = right .long;
         shortest = λ other a. let h = means other a in right .shortest .least other (h .0) (h .1);
+        some-symbol = not-the-empty-word word d;
       }
   found (empty c) d e = absurd (omega arith)
   found (stepsLack c) d e = absurd (omega arith)
   found (blockersLack c) d e = absurd (omega arith)
   found (wordLacks c) d e = absurd (omega arith)
+  found startsFinal d e = absurd (omega arith)
 
-  closed-frame : (o : Outcome) → Done (systemOf image) (roomsOf lent) o → numberOf (ends o) ≡ 0 → Closed (systemOf image) (heldBy (resultOf lent (ends o)))
+  closed-frame : (o : Outcome) → Done (systemOf image) (roomsOf lent) edition o → numberOf (ends o) ≡ 0 → Closed (systemOf image) (heldBy (resultOf lent (ends o)))
   unfolding numberOf
   closed-frame (empty c) d e = subst (Closed (systemOf image)) (sym (held-end lent even (empty c))) (d .right)
   closed-frame (nonempty word c) d e = absurd (omega arith)
   closed-frame (stepsLack c) d e = absurd (omega arith)
   closed-frame (blockersLack c) d e = absurd (omega arith)
   closed-frame (wordLacks c) d e = absurd (omega arith)
+  closed-frame startsFinal d e = absurd (omega arith)
 
-  none-accepted : (o : Outcome) → Done (systemOf image) (roomsOf lent) o → numberOf (ends o) ≡ 0 → (word : List ℕ) → Accepted (automatonOf image) word → ⊥
+  none-accepted : (o : Outcome) → Done (systemOf image) (roomsOf lent) edition o → numberOf (ends o) ≡ 0 → (word : List ℕ) → Accepted (automatonOf image) word → ⊥
   none-accepted o d e word a = let h = means word a in closed-none (systemOf image) lawful _ (closed-frame o d e) word (h .0) (h .1)
 
   wordless : (o : Outcome) → (numberOf (ends o) ≡ 1 → ⊥) → symbolsIn (ends o) ≡ []
@@ -122,19 +151,61 @@ module _ (image : List ℕ) (lent : Lent) (valid : Valid image) (even : Even len
   wordless (stepsLack c) n = refl
   wordless (blockersLack c) n = refl
   wordless (wordLacks c) n = refl
+  wordless startsFinal n = refl
 
   leaves-symbols : (o : Outcome) → (numberOf (ends o) ≡ 1 → ⊥) → resultOf lent (ends o) .tables .symbols ≡ replicate (length (lent .symbols)) 0
   unfolding resultOf tablesAfter
-  leaves-symbols o n = rw (wordless o n, even .symbols) (placed-none (lent .symbols))
+  leaves-symbols o n = rw (wordless o n) (no-symbols lent even)
+
+  -- 5 shows that the start is final
+  shows-final : (o : Outcome) → numberOf (ends o) ≡ 5 → o ≡ startsFinal
+  unfolding numberOf
+  shows-final (nonempty word c) e = absurd (omega arith)
+  shows-final (empty c) e = absurd (omega arith)
+  shows-final (stepsLack c) e = absurd (omega arith)
+  shows-final (blockersLack c) e = absurd (omega arith)
+  shows-final (wordLacks c) e = absurd (omega arith)
+  shows-final startsFinal e = refl
+
+  starts-final : (o : Outcome) → Done (systemOf image) (roomsOf lent) edition o
+      → (numberOf (ends o) ≡ 5) ↔ ((edition ≡ 2) × Accepted (automatonOf image) [])
+  unfolding numberOf
+  starts-final o d = (accepted, answered)
+    where
+      accepted : numberOf (ends o) ≡ 5 → (edition ≡ 2) × Accepted (automatonOf image) []
+      accepted e =
+          let right = subst (RightAnswer (systemOf image) edition) (shows-final o e) (d .right) in
+          (right .0, accepted-by-runs image valid [] .1 (λ s m. absurd (in-none m), right .1))
+
+      answered : (edition ≡ 2) × Accepted (automatonOf image) [] → numberOf (ends o) ≡ 5
+      answered h = ap (λ (x : Outcome). numberOf (ends x)) (d .start (h .0) (means [] (h .1) .1))
+
+  -- and then nothing was done
+  at-start : Alone 5 (zeroed lent) (resultOf lent (ends startsFinal))
+  unfolding resultOf numberOf beginning casesIn symbolsIn
+  at-start =
+      record {
+        under = refl;
+        no-steps = refl;
+        no-level = refl;
+        no-blockers = refl;
+        no-hints = refl;
+        leaves = tables-zero lent even (ends startsFinal) refl refl refl;
+      }
+
+  nothing-done : (o : Outcome) → numberOf (ends o) ≡ 5 → Alone 5 (zeroed lent) (resultOf lent (ends o))
+  nothing-done o e = subst (λ (x : Outcome). Alone 5 (zeroed lent) (resultOf lent (ends x))) (sym (shows-final o e)) at-start
 
   -- every rule
-  pub rules : (o : Outcome) → Done (systemOf image) (roomsOf lent) o → Rules image lent (resultOf lent (ends o))
+  pub rules : (o : Outcome) → Done (systemOf image) (roomsOf lent) edition o → Rules image lent edition (resultOf lent (ends o))
   unfolding resultOf
   rules o d =
       record {
         nonempty = found o d;
         empty = none-accepted o d;
         empty-frame = closed-frame o d;
+        starts-final = starts-final o d;
+        starts-final-leaves = nothing-done o;
         other = number-low o;
         held-fits = d .counted .table-fits;
         leaves-cases = cases-end lent even o;
@@ -143,41 +214,53 @@ module _ (image : List ℕ) (lent : Lent) (valid : Valid image) (even : Even len
         entered-in-order = entered-in-order lent even o (d .stamped);
       }
 
--- an outcome that shows a verdict is one
-verdict-number : (lent : Lent) (o : Outcome) → resultOf lent (ends o) .number ≤ 1 → IsVerdict o
-unfolding resultOf numberOf
-verdict-number lent (empty c) l = tt
-verdict-number lent (nonempty word c) l = tt
-verdict-number lent (stepsLack c) l = omega arith
-verdict-number lent (blockersLack c) l = omega arith
-verdict-number lent (wordLacks c) l = omega arith
+-- a number between 1 and 5 is no verdict
+no-verdict : {edition number : ℕ} → 1 < number → number < 5 → Verdict edition number → ⊥
+no-verdict l h (inl k) = omega arith
+no-verdict l h (inr k) = omega (arith, k .1)
 
-module _ (image other : List ℕ) (lent lent′ : Lent) where
-  agreed : {o o′ : Outcome} → Done (systemOf image) (roomsOf lent) o → Done (systemOf other) (roomsOf lent′) o′ → Agree o o′
+-- an outcome that shows a verdict is one
+verdict-number : (edition : ℕ) (lent : Lent) (o : Outcome) → Verdict edition (resultOf lent (ends o) .number) → IsVerdict o
+unfolding resultOf numberOf
+verdict-number edition lent (empty c) v = tt
+verdict-number edition lent (nonempty word c) v = tt
+verdict-number edition lent (stepsLack c) v = no-verdict (omega arith) (omega arith) v
+verdict-number edition lent (blockersLack c) v = no-verdict (omega arith) (omega arith) v
+verdict-number edition lent (wordLacks c) v = no-verdict (omega arith) (omega arith) v
+verdict-number edition lent startsFinal v = tt
+
+module _ (image other : List ℕ) (lent lent′ : Lent) (edition : ℕ) where
+  agreed : {o o′ : Outcome} → Done (systemOf image) (roomsOf lent) edition o → Done (systemOf other) (roomsOf lent′) edition o′ → Agree o o′
       → Agreed (resultOf lent (ends o)) (resultOf lent′ (ends o′))
   unfolding resultOf numberOf
   agreed d d′ (both-nonempty e) = record { verdict = refl; words = λ one. sym (d .right .long) ∙ e ∙ d′ .right .long }
   agreed d d′ both-empty = record { verdict = refl; words = λ one. absurd (omega arith) }
+  agreed d d′ both-at-start = record { verdict = refl; words = λ one. absurd (omega arith) }
 
-  -- two runs with a verdict agree
-  pub results-agree : Valid image → Valid other → HoldOne image other → {o o′ : Outcome} → Done (systemOf image) (roomsOf lent) o
-      → Done (systemOf other) (roomsOf lent′) o′ → resultOf lent (ends o) .number ≤ 1 → resultOf lent′ (ends o′) .number ≤ 1
-      → Agreed (resultOf lent (ends o)) (resultOf lent′ (ends o′))
+  -- two runs with a verdict agree, within one edition
+  pub results-agree : Valid image → Valid other → HoldOne image other → {o o′ : Outcome} → Done (systemOf image) (roomsOf lent) edition o
+      → Done (systemOf other) (roomsOf lent′) edition o′ → Verdict edition (resultOf lent (ends o) .number)
+      → Verdict edition (resultOf lent′ (ends o′) .number) → Agreed (resultOf lent (ends o)) (resultOf lent′ (ends o′))
   results-agree valid valid′ same {o} {o′} d d′ v v′ =
       agreed d d′
-      (right-verdicts-agree (image-lawful image valid) (image-lawful other valid′) (same-language image other same)
-      o o′ (verdict-number lent o v) (verdict-number lent′ o′ v′) (d .right) (d′ .right))
+      (right-verdicts-agree (image-lawful image valid) (image-lawful other valid′) (same-language image other same) edition
+      o o′ (verdict-number edition lent o v) (verdict-number edition lent′ o′ v′) (d .right) (d′ .right) (d .start) (d′ .start))
 
 -- a verdict within a bound: that it is one, the number that it shows, and its steps
 pub decided-verdict : {most : ℕ} {o : Outcome} → Decided most o → IsVerdict o
 decided-verdict (decidedNonempty l) = tt
 decided-verdict (decidedEmpty l) = tt
+decided-verdict decidedAtStart = tt
 
-pub decided-number : (lent : Lent) {most : ℕ} {o : Outcome} → Decided most o → resultOf lent (ends o) .number ≤ 1
+pub decided-number : (lent : Lent) {S : System} {rooms : Rooms} {edition most : ℕ} {o : Outcome} → Done S rooms edition o → Decided most o
+    → Verdict edition (resultOf lent (ends o) .number)
 unfolding resultOf numberOf
-decided-number lent (decidedNonempty l) = omega arith
-decided-number lent (decidedEmpty l) = omega arith
+decided-number lent d (decidedNonempty l) = inl (omega arith)
+decided-number lent d (decidedEmpty l) = inl (omega arith)
+decided-number lent d decidedAtStart = inr (d .right .0, refl)
 
 pub decided-in-time : {most : ℕ} {o : Outcome} → Decided most o → comesTo (ends o) .steps ≤ most
+unfolding beginning
 decided-in-time (decidedNonempty l) = l
 decided-in-time (decidedEmpty l) = l
+decided-in-time decidedAtStart = omega arith

@@ -4,7 +4,7 @@ use Rattle.machine.specs.Promises.{Promises}
 use Rattle.automata.proofs.Reading.{reading-refused, reading-refused-values, reading-valid, reading-valid-values}
 use Rattle.writing.proofs.Decimals.{digits-one, digits-decimal}
 use Rattle.machine.proofs.WordTests.{refuses-image, refuses-symbol, says-yes, says-no, same-answer}
-use Rattle.machine.proofs.RunsKept.{run-promises, runs-agree, block-unpends, entered-in-order}
+use Rattle.machine.proofs.RunsKept.{run-promises, runs-agree, editions-agree, block-unpends, entered-in-order}
 use Rattle.machine.proofs.Reasons.{why-tells}
 use Rattle.machine.proofs.LentTables.{blockers-length}
 use Rattle.machine.proofs.Images.{walk-tells}
@@ -23,6 +23,7 @@ kept = record {
   word-test-same = same-answer;
   runs = run-promises;
   runs-agree = runs-agree;
+  editions-agree = editions-agree;
   block-unpends = block-unpends;
   entered-in-order = entered-in-order;
   why-tells = why-tells;

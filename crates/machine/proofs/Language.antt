@@ -11,7 +11,7 @@ use Rattle.lists.specs.Lists.{Each, any}
 use Rattle.masks.specs.Sets.{subset, within}
 use Rattle.machine.specs.System.{System}
 use Rattle.machine.specs.Machine.{Blocker, Configuration, Growth, passes}
-use Rattle.machine.specs.Machine.{Outcome, nonempty, empty, stepsLack, blockersLack, wordLacks}
+use Rattle.machine.specs.Machine.{Outcome, nonempty, empty, stepsLack, blockersLack, wordLacks, startsFinal}
 
 -- the case taken back by the word's symbols from last to first
 unfoldable pub takenBack : System → List ℕ → ℕ → ℕ
@@ -52,6 +52,7 @@ pub record Shortest (S : System) (word : List ℕ) : Type 0 where
 pub data Decided (most : ℕ) : Outcome → Type 0 where
   decidedNonempty : {word : List ℕ} {c : Configuration} → c .steps ≤ most → Decided most (nonempty word c)
   decidedEmpty : {c : Configuration} → c .steps ≤ most → Decided most (empty c)
+  decidedAtStart : Decided most startsFinal
 
 -- the outcome is a verdict
 abbrev pub IsVerdict : Outcome → Type 0
@@ -60,13 +61,19 @@ IsVerdict (empty c) = Unit {0}
 IsVerdict (stepsLack c) = ⊥
 IsVerdict (blockersLack c) = ⊥
 IsVerdict (wordLacks c) = ⊥
+IsVerdict startsFinal = Unit {0}
+
+-- in edition 2 a start that is final is answered as such
+abbrev pub AnswersStart : System → ℕ → Outcome → Type 0
+AnswersStart S edition outcome = edition ≡ 2 → T (accepts S []) → outcome ≡ startsFinal
 
 -- the same words, of which the same are accepted
 pub record SameLanguage (S S′ : System) : Type 0 where
   pub words : (word : List ℕ) → Word S word ↔ Word S′ word
   pub accepted : (word : List ℕ) → Word S word → accepts S word ≡ accepts S′ word
 
--- both found words, equally long, or both found that there is none
+-- both found words, equally long, or both found that there is none, or that the start is final
 pub data Agree : Outcome → Outcome → Type 0 where
   both-nonempty : {word word′ : List ℕ} {c c′ : Configuration} → length word ≡ length word′ → Agree (nonempty word c) (nonempty word′ c′)
   both-empty : {c c′ : Configuration} → Agree (empty c) (empty c′)
+  both-at-start : Agree startsFinal startsFinal

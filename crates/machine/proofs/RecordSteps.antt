@@ -6,9 +6,9 @@ use mathlib.Core.List.{List}
 use native.Mathlib.Omega.{arith}
 use lib.ListN.{length}
 use Rattle.machine.specs.System.{System}
-use Rattle.machine.specs.Machine.{Blocker, Configuration, Rooms, Next, goesOn, comesTo, advance}
+use Rattle.machine.specs.Machine.{Blocker, Configuration, Given, Rooms, Next, goesOn, comesTo, advance}
 use Rattle.machine.specs.Lent.{column, columnBack, maskOf, levelOf, enteredOf, caseOf, symbolOf, placed, withTable}
-use Rattle.machine.specs.Runs.{Lent, Terms, systemOf, roomsOf, givenOf, casesIn, symbolsIn, tablesAfter}
+use Rattle.machine.specs.Runs.{Lent, systemOf, roomsOf, casesIn, symbolsIn, tablesAfter}
 use Rattle.machine.specs.Records.{Stage, configurationOf, pendingOf, recordOf, after, stepOf}
 use Rattle.machine.proofs.Invariant.{chain-length}
 use Rattle.machine.proofs.Chains.{Working}
@@ -98,10 +98,10 @@ module _ (lent : Lent) (even : Even lent) (c : Configuration) (fit : Fitting len
       )
 
   -- a step from there shows the machine's next configuration
-  pub step-shown : (image : List ℕ) (terms : Terms)
-      → stepOf image terms (shown lent (goesOn c)) ≡ shown lent (advance (systemOf image) (roomsOf lent) (givenOf image terms) (goesOn c))
+  pub step-shown : (image : List ℕ) (given : Given)
+      → stepOf image given (shown lent (goesOn c)) ≡ shown lent (advance (systemOf image) (roomsOf lent) given (goesOn c))
   unfolding stepOf
-  step-shown image terms =
-      ap₂ (λ (rooms : Rooms) (d : Configuration). after (shown lent (goesOn c)) (advance (systemOf image) rooms (givenOf image terms) (goesOn d)))
+  step-shown image given =
+      ap₂ (λ (rooms : Rooms) (d : Configuration). after (shown lent (goesOn c)) (advance (systemOf image) rooms given (goesOn d)))
       rooms-shown read-shown
-      ∙ after-shown (advance (systemOf image) (roomsOf lent) (givenOf image terms) (goesOn c))
+      ∙ after-shown (advance (systemOf image) (roomsOf lent) given (goesOn c))

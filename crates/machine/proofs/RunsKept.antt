@@ -2,27 +2,31 @@
 use Prim.Native.Nat.{ℕ, zero, suc, _^_, _≤_, _<_}
 use mathlib.Core.Path.{_≡_, refl, sym, ap, subst, _∙_}
 use mathlib.Core.Bool.{Bool, true, false}
-use mathlib.Core.List.{List, _∷_}
+use mathlib.Core.List.{List, [], _∷_}
 use mathlib.Core.Logic.{_⊎_, inl, inr}
 use native.Mathlib.Omega.{arith}
-use borrow.Author.Tests.{eqb-true}
+use borrow.Author.Tests.{eqb-true, ne-eqb}
 use lib.Dec.{T}
 use lib.ListN.{length}
+use Rattle.lists.specs.Tests.{_or_, neg}
 use Rattle.lists.proofs.Tests.{is-true, or-left, or-right, neg-neg}
+use Rattle.lists.proofs.Lists.{in-none}
 use Rattle.automata.specs.Image.{Valid, check, checkImage, statesOf}
-use Rattle.automata.specs.Automaton.{HoldOne}
+use Rattle.automata.specs.Automaton.{automatonOf, HoldOne}
+use Rattle.automata.specs.Acceptance.{Accepted}
 use Rattle.automata.proofs.Checks.{check-number}
 use Rattle.machine.specs.Machine.{Pending, Configuration, Rooms, blocks, step, Next, ends, comesTo}
-use Rattle.machine.specs.Runs.{Lent, Terms, Result, systemOf, roomsOf, refused, resultOf, oddRooms, checkRooms, checkRun}
-use Rattle.machine.specs.Runs.{givenOf, endOf, runWith, runOf}
+use Rattle.machine.specs.Runs.{Lent, Terms, Result, systemOf, roomsOf, refused, resultOf, oddRooms, oversize, unknownEdition}
+use Rattle.machine.specs.Runs.{checkTerms, checkRun, givenOf, endOf, runWith, runOf}
 use Rattle.machine.specs.Meaning.{EnteredInOrder, WorksIn}
-use Rattle.machine.specs.Promises.{Refused, Rules, RunEnded, Decides, RunPromises, Agreed}
+use Rattle.machine.specs.Promises.{Refused, Rules, RunEnded, inEdition, Verdict, Decides, RunPromises, Agreed}
 use Rattle.machine.proofs.Language.{Lawful}
 use Rattle.machine.proofs.Passing.{byStates-sound}
 use Rattle.machine.proofs.Chains.{Done, Ended}
 use Rattle.machine.proofs.Driving.{works-in, machine-ends, machine-done, machine-allowed, machine-ended, machine-decided, verdict-stays}
+use Rattle.machine.proofs.Driving.{machine-begins-alike}
 use Rattle.machine.proofs.Unpending.{block-leaves}
-use Rattle.machine.proofs.Images.{image-lawful}
+use Rattle.machine.proofs.Images.{image-lawful, accepted-by-runs}
 use Rattle.machine.proofs.Judging.{Even, rules, results-agree, decided-verdict, decided-number, decided-in-time}
 
 -- what a run's checks leave where none applies
@@ -40,21 +44,66 @@ unfolding check
 check-high true number later l h = inr l
 check-high false number later l h = h
 
-module _ (image : List ℕ) (lent : Lent) (terms : Terms) where
-  image-first : (number : ℕ) → checkRooms lent (terms .hints) number ≡ 0 → number ≡ 0
-  unfolding checkRooms
-  image-first zero e = refl
-  image-first (suc number) e = e
+-- the checks of the rooms come before a later one
+rooms-before : (odd over : Bool) (later : ℕ) → (check odd 30 (check over 31 0) ≡ 0 → ⊥) → check odd 30 (check over 31 later) ≡ check odd 30 (check over 31 0)
+unfolding check
+rooms-before true over later n = refl
+rooms-before false true later n = refl
+rooms-before false false later n = absurd (n refl)
 
-  rooms-checked : checkRooms lent (terms .hints) 0 ≡ 0 → T (oddRooms lent) → ⊥
-  unfolding checkRooms
+rooms-passed : (odd over : Bool) (later : ℕ) → check odd 30 (check over 31 0) ≡ 0 → check odd 30 (check over 31 later) ≡ later
+unfolding check
+rooms-passed true over later e = absurd (omega arith)
+rooms-passed false true later e = absurd (omega arith)
+rooms-passed false false later e = refl
+
+-- the checks that follow the image's
+module _ (lent : Lent) (hints : List ℕ) (edition : ℕ) where
+  -- an image that is refused is refused under its own number
+  image-kept : (number : ℕ) → (number ≡ 0 → ⊥) → checkTerms lent hints edition number ≡ number
+  unfolding checkTerms
+  image-kept zero n = absurd (n refl)
+  image-kept (suc number) n = refl
+
+  -- whatever refuses a run in edition 1 comes before 36
+  edition-waits : (number : ℕ) → (checkTerms lent hints 1 number ≡ 0 → ⊥) → checkTerms lent hints edition number ≡ checkTerms lent hints 1 number
+  unfolding checkTerms unknownEdition check neg _or_
+  edition-waits zero n = rooms-before (oddRooms lent) (oversize lent hints) _ n
+  edition-waits (suc number) n = refl
+
+  -- where nothing else refuses it, an edition other than 1 or 2 does
+  edition-refused : (edition ≡ 1 → ⊥) → (edition ≡ 2 → ⊥) → (number : ℕ) → checkTerms lent hints 1 number ≡ 0
+      → checkTerms lent hints edition number ≡ 36
+  unfolding checkTerms unknownEdition check neg _or_
+  edition-refused first second zero e = rw (ne-eqb _ _ first, ne-eqb _ _ second) (rooms-passed (oddRooms lent) (oversize lent hints) 36 e)
+  edition-refused first second (suc number) e = absurd (omega arith)
+
+  -- editions 1 and 2 are refused alike
+  editions-checked : (number : ℕ) → checkTerms lent hints 1 number ≡ checkTerms lent hints 2 number
+  unfolding checkTerms unknownEdition neg _or_
+  editions-checked zero = refl
+  editions-checked (suc number) = refl
+
+  image-first : (number : ℕ) → checkTerms lent hints edition number ≡ 0 → number ≡ 0
+  unfolding checkTerms
+  image-first zero e = refl
+  image-first (suc number) e = absurd (omega arith)
+
+  rooms-checked : checkTerms lent hints edition 0 ≡ 0 → T (oddRooms lent) → ⊥
+  unfolding checkTerms
   rooms-checked e = check-fails _ _ _ e .0
 
+  terms-number : (number : ℕ) → (number ≡ 0) ⊎ (20 ≤ number) → (checkTerms lent hints edition number ≡ 0) ⊎ (20 ≤ checkTerms lent hints edition number)
+  unfolding checkTerms
+  terms-number zero h = check-high _ _ _ (omega arith) (check-high _ _ _ (omega arith) (check-high _ _ 0 (omega arith) (inl refl)))
+  terms-number (suc number) h = h
+
+module _ (image : List ℕ) (lent : Lent) (terms : Terms) where
   pub checked : checkRun image lent terms ≡ 0 → Checked image lent
   unfolding checkRun oddRooms
   checked e =
-      let v : checkImage image ≡ 0 = image-first (checkImage image) e in
-      let odd = rooms-checked (ap (checkRooms lent (terms .hints)) (sym v) ∙ e) in
+      let v : checkImage image ≡ 0 = image-first lent (terms .hints) (terms .edition) (checkImage image) e in
+      let odd = rooms-checked lent (terms .hints) (terms .edition) (ap (checkTerms lent (terms .hints) (terms .edition)) (sym v) ∙ e) in
       record {
         valid = v;
         even = record {
@@ -66,15 +115,10 @@ module _ (image : List ℕ) (lent : Lent) (terms : Terms) where
         };
       }
 
-  rooms-number : (number : ℕ) → (number ≡ 0) ⊎ (20 ≤ number) → (checkRooms lent (terms .hints) number ≡ 0) ⊎ (20 ≤ checkRooms lent (terms .hints) number)
-  unfolding checkRooms
-  rooms-number zero h = check-high _ 30 _ (omega arith) (check-high _ 31 0 (omega arith) (inl refl))
-  rooms-number (suc number) h = h
-
   -- a run's checks answer 0 or a number from 20 on
   pub run-number : (checkRun image lent terms ≡ 0) ⊎ (20 ≤ checkRun image lent terms)
   unfolding checkRun
-  run-number = rooms-number (checkImage image) (high (check-number image))
+  run-number = terms-number lent (terms .hints) (terms .edition) (checkImage image) (high (check-number image))
     where
       high : (checkImage image ≡ 0) ⊎ ((20 ≤ checkImage image) × (checkImage image ≤ 27)) → (checkImage image ≡ 0) ⊎ (20 ≤ checkImage image)
       high (inl e) = inl e
@@ -82,12 +126,8 @@ module _ (image : List ℕ) (lent : Lent) (terms : Terms) where
 
   -- the image's number comes first
   image-number : (Valid image → ⊥) → checkRun image lent terms ≡ checkImage image
-  unfolding checkRun checkRooms
-  image-number n = at (checkImage image) n
-    where
-      at : (number : ℕ) → (number ≡ 0 → ⊥) → checkRooms lent (terms .hints) number ≡ number
-      at zero f = absurd (f refl)
-      at (suc number) f = refl
+  unfolding checkRun
+  image-number = image-kept lent (terms .hints) (terms .edition) (checkImage image)
 
 -- the result of a run shows its steps
 result-steps : (lent : Lent) (n : Next) → resultOf lent n .steps ≡ comesTo n .steps
@@ -103,7 +143,7 @@ is-refused e =
       no-level = ap (λ (x : Result). x .level) e;
       no-blockers = ap (λ (x : Result). x .blockers) e;
       no-hints = ap (λ (x : Result). x .accepted) e;
-      untouched = ap (λ (x : Result). x .tables) e;
+      leaves = ap (λ (x : Result). x .tables) e;
     }
 
 module _ (image : List ℕ) (lent : Lent) (terms : Terms) where
@@ -129,10 +169,23 @@ module _ (image : List ℕ) (lent : Lent) (terms : Terms) where
       let e = image-number image lent terms n in
       subst (λ (number : ℕ). Refused lent number (runOf image lent terms)) e (refuses (λ z. n (sym e ∙ z)))
 
+  -- an edition other than 1 or 2 is refused, after whatever refuses the run in edition 1
+  refuses-edition : (terms .edition ≡ 1 → ⊥) → (terms .edition ≡ 2 → ⊥) → checkRun image lent (inEdition 1 terms) ≡ 0
+      → Refused lent 36 (runOf image lent terms)
+  unfolding checkRun
+  refuses-edition first second e =
+      is-refused (refused-run 36 (edition-refused lent (terms .hints) (terms .edition) first second (checkImage image) e) (omega arith))
+
+  edition-after : (checkRun image lent (inEdition 1 terms) ≡ 0 → ⊥) → Refused lent (checkRun image lent (inEdition 1 terms)) (runOf image lent terms)
+  unfolding checkRun
+  edition-after n =
+      let e = edition-waits lent (terms .hints) (terms .edition) (checkImage image) n in
+      subst (λ (number : ℕ). Refused lent number (runOf image lent terms)) e (refuses (λ z. n (sym e ∙ z)))
+
   -- a run that is not refused ends
   end-is : Ended (endOf image (roomsOf lent) terms)
   unfolding endOf
-  end-is = machine-ends (systemOf image) (roomsOf lent) (givenOf image terms)
+  end-is = machine-ends (systemOf image) (roomsOf lent) (terms .edition) (givenOf image terms)
 
   module _ (none : checkRun image lent terms ≡ 0) where
     lawful : Lawful (systemOf image)
@@ -141,43 +194,42 @@ module _ (image : List ℕ) (lent : Lent) (terms : Terms) where
     shows : runOf image lent terms ≡ resultOf lent (ends (end-is .outcome))
     shows = machine-run none ∙ ap (resultOf lent) (end-is .is)
 
-    run-done : Done (systemOf image) (roomsOf lent) (end-is .outcome)
+    run-done : Done (systemOf image) (roomsOf lent) (terms .edition) (end-is .outcome)
     unfolding endOf
-    run-done = machine-done (systemOf image) lawful (roomsOf lent) (givenOf image terms) (byStates-sound (systemOf image)) (end-is .is)
+    run-done = machine-done (systemOf image) lawful (roomsOf lent) (terms .edition) (givenOf image terms) (byStates-sound (systemOf image)) (end-is .is)
 
-    run-rules : Rules image lent (runOf image lent terms)
+    run-rules : Rules image lent (terms .edition) (runOf image lent terms)
     run-rules =
         let c = checked image lent terms none in
-        subst (Rules image lent) (sym shows) (rules image lent (c .valid) (c .even) _ run-done)
+        subst (Rules image lent (terms .edition)) (sym shows) (rules image lent (terms .edition) (c .valid) (c .even) _ run-done)
 
     run-ended : RunEnded image lent terms (runOf image lent terms)
     unfolding endOf
     run-ended = record {
       outcome = end-is .outcome;
       shows = shows;
-      how = machine-ended (systemOf image) lawful (roomsOf lent) (givenOf image terms) (byStates-sound (systemOf image)) (end-is .is);
+      how = machine-ended (systemOf image) lawful (roomsOf lent) (terms .edition) (givenOf image terms) (byStates-sound (systemOf image)) (end-is .is);
     }
 
     run-allowed : runOf image lent terms .steps ≤ terms .allowance
     unfolding endOf
     run-allowed =
         let steps = ap (λ (x : Result). x .steps) (machine-run none) ∙ result-steps lent _ in
-        omega (arith, steps, machine-allowed (systemOf image) lawful (roomsOf lent) (givenOf image terms) (byStates-sound (systemOf image)))
+        omega (arith, steps, machine-allowed (systemOf image) lawful (roomsOf lent) (terms .edition) (givenOf image terms) (byStates-sound (systemOf image)))
 
     run-decides : 2 ^ statesOf image ≤ length (lent .room .masks) → 2 ^ statesOf image ≤ length (lent .cases) → 4 ^ suc (statesOf image) ≤ terms .allowance
         → Decides image lent terms (4 ^ suc (statesOf image)) (runOf image lent terms)
     unfolding endOf
     run-decides places levels enough =
-        let d = machine-decided (systemOf image) lawful (roomsOf lent) (givenOf image terms) (byStates-sound (systemOf image)) places levels enough
+        let d = machine-decided (systemOf image) lawful (roomsOf lent) (terms .edition) (givenOf image terms) (byStates-sound (systemOf image)) places levels enough
         (end-is .is) in
         let steps = ap (λ (x : Result). x .steps) shows ∙ result-steps lent _ in
-        let number = ap (λ (x : Result). x .number) shows in
         record {
-          verdict = omega (arith, number, decided-number lent d);
+          verdict = subst (λ (x : Result). Verdict (terms .edition) (x .number)) (sym shows) (decided-number lent run-done d);
           in-time = omega (arith, steps, decided-in-time d);
           unbounded = λ rooms more b w a.
               shows ∙ ap (resultOf lent)
-              (sym (verdict-stays (systemOf image) (roomsOf lent) rooms (givenOf image terms) more b w a (decided-verdict d) (end-is .is)));
+              (sym (verdict-stays (systemOf image) (roomsOf lent) rooms (terms .edition) (givenOf image terms) more b w a (decided-verdict d) (end-is .is)));
         }
 
   refused-number : 20 ≤ checkRun image lent terms → runOf image lent terms .number ≡ checkRun image lent terms
@@ -205,35 +257,62 @@ module _ (image : List ℕ) (lent : Lent) (terms : Terms) where
         refuses = refuses;
         refuses-image = refuses-image;
         refuses-only = λ l e. omega (arith, run-rules e .other);
+        refuses-edition = refuses-edition;
+        edition-after = edition-after;
         judged = run-rules;
         ended = run-ended;
         in-allowance = in-allowance;
         decides = λ none few. run-decides none;
       }
 
--- two runs that reach a verdict agree
-pub runs-agree : (image other : List ℕ) (lent lent′ : Lent) (terms terms′ : Terms) → HoldOne image other
-    → runOf image lent terms .number ≤ 1 → runOf other lent′ terms′ .number ≤ 1 → Agreed (runOf image lent terms) (runOf other lent′ terms′)
-runs-agree image other lent lent′ terms terms′ same l l′ =
-    let none = unchecked image lent terms (omega arith) in
-    let none′ = unchecked other lent′ terms′ (omega arith) in
+-- a number that is a verdict refuses nothing
+verdict-low : {edition number : ℕ} → Verdict edition number → number < 20
+verdict-low (inl l) = omega arith
+verdict-low (inr e) = omega (arith, e .1)
+
+-- two runs that reach a verdict agree, within one edition
+pub runs-agree : (image other : List ℕ) (lent lent′ : Lent) (terms terms′ : Terms) → HoldOne image other → terms .edition ≡ terms′ .edition
+    → Verdict (terms .edition) (runOf image lent terms .number) → Verdict (terms′ .edition) (runOf other lent′ terms′ .number)
+    → Agreed (runOf image lent terms) (runOf other lent′ terms′)
+runs-agree image other lent lent′ terms terms′ same edition v v′ =
+    let none = unchecked image lent terms (verdict-low v) in
+    let none′ = unchecked other lent′ terms′ (verdict-low v′) in
     let e = shows image lent terms none in
     let e′ = shows other lent′ terms′ none′ in
     rw (e, e′)
-    (results-agree image other lent lent′ (checked image lent terms none .valid) (checked other lent′ terms′ none′ .valid) same
-    (run-done image lent terms none) (run-done other lent′ terms′ none′)
-    (subst (λ (r : Result). r .number ≤ 1) e l) (subst (λ (r : Result). r .number ≤ 1) e′ l′))
+    (results-agree image other lent lent′ (terms .edition) (checked image lent terms none .valid) (checked other lent′ terms′ none′ .valid) same
+    (run-done image lent terms none)
+    (subst (λ (n : ℕ). Done (systemOf other) (roomsOf lent′) n (end-is other lent′ terms′ .outcome)) (sym edition) (run-done other lent′ terms′ none′))
+    (subst (λ (r : Result). Verdict (terms .edition) (r .number)) e v)
+    (subst (λ (n : ℕ). Verdict n (resultOf lent′ (ends (end-is other lent′ terms′ .outcome)) .number)) (sym edition)
+    (subst (λ (r : Result). Verdict (terms′ .edition) (r .number)) e′ v′)))
+
+-- where the start is not final the two editions are one
+pub editions-agree : (image : List ℕ) (lent : Lent) (terms : Terms) → (Accepted (automatonOf image) [] → ⊥)
+    → runOf image lent (inEdition 1 terms) ≡ runOf image lent (inEdition 2 terms)
+unfolding runOf runWith checkRun endOf
+editions-agree image lent terms not-final =
+    ap (runWith image lent (inEdition 1 terms)) (editions-checked lent (terms .hints) (terms .edition) (checkImage image))
+    ∙ at (checkRun image lent (inEdition 2 terms)) refl
+  where
+    at : (number : ℕ) → checkRun image lent (inEdition 2 terms) ≡ number
+        → runWith image lent (inEdition 1 terms) number ≡ runWith image lent (inEdition 2 terms) number
+    at zero e =
+        let valid = checked image lent (inEdition 2 terms) e .valid in
+        ap (resultOf lent) (machine-begins-alike (systemOf image) (roomsOf lent) (givenOf image terms) 1 2
+        (λ t. not-final (accepted-by-runs image valid [] .1 (λ s m. absurd (in-none m), t))))
+    at (suc number) e = refl
 
 -- a block leaves the cases pending that waited above X, and no other
 pub block-unpends : (image : List ℕ) (rooms : Rooms) (terms : Terms) (X : Pending) (rest : List Pending) (c d : Configuration) → Valid image
-    → WorksIn (systemOf image) rooms (givenOf image terms) c → c .pending ≡ X ∷ rest → step (systemOf image) (givenOf image terms) c ≡ blocks d
+    → WorksIn (systemOf image) rooms (terms .edition) (givenOf image terms) c → c .pending ≡ X ∷ rest → step (systemOf image) (givenOf image terms) c ≡ blocks d
     → d .pending ≡ rest
 block-unpends image rooms terms X rest c d valid works waits made =
-    let w = works-in (systemOf image) (image-lawful image valid) rooms (givenOf image terms) (byStates-sound (systemOf image)) works in
+    let w = works-in (systemOf image) (image-lawful image valid) rooms (terms .edition) (givenOf image terms) (byStates-sound (systemOf image)) works in
     block-leaves (systemOf image) refl (givenOf image terms) (byStates-sound (systemOf image)) c (w .holds) waits made
 
 -- in every table that a run comes to, its blockers entered in order
 pub entered-in-order : (image : List ℕ) (rooms : Rooms) (terms : Terms) (c : Configuration) → Valid image
-    → WorksIn (systemOf image) rooms (givenOf image terms) c → EnteredInOrder 0 (c .steps) (c .table)
+    → WorksIn (systemOf image) rooms (terms .edition) (givenOf image terms) c → EnteredInOrder 0 (c .steps) (c .table)
 entered-in-order image rooms terms c valid works =
-    works-in (systemOf image) (image-lawful image valid) rooms (givenOf image terms) (byStates-sound (systemOf image)) works .stamped
+    works-in (systemOf image) (image-lawful image valid) rooms (terms .edition) (givenOf image terms) (byStates-sound (systemOf image)) works .stamped

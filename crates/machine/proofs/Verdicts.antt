@@ -1,7 +1,7 @@
 -- The verdicts are right: a word that a run finds is a shortest accepted one and as long as the level, a frame that it answers is closed, a closed
 -- frame shows that no word is accepted, and a run at level N has shown that no shorter word is. Assumes nothing.
 use Prim.Native.Nat.{ℕ, zero, suc, _-_, _≤_, _<_}
-use mathlib.Core.Path.{_≡_, refl, sym, subst}
+use mathlib.Core.Path.{_≡_, refl, sym, subst, _∙_}
 use mathlib.Core.Bool.{Bool, true, false}
 use mathlib.Core.List.{List, [], _∷_}
 use mathlib.Core.Logic.{_≢_}
@@ -18,7 +18,7 @@ use Rattle.machine.specs.System.{System}
 use Rattle.machine.specs.Machine.{Blocker, Pending, Configuration, Given, Rooms, beginning, staying, wordOf, noneAt, frame}
 use Rattle.machine.specs.Machine.{Step, opens, extends, blocks, closes, answersNonempty, answersEmpty}
 use Rattle.machine.specs.Machine.{openStep, extendStep, blockStep, closeWith, qualifies, step, Next, goesOn, ends}
-use Rattle.machine.specs.Machine.{Outcome, nonempty, empty, stepsLack, blockersLack, wordLacks}
+use Rattle.machine.specs.Machine.{Outcome, nonempty, empty, stepsLack, blockersLack, wordLacks, startsFinal}
 use Rattle.machine.specs.Meaning.{Inside, Closed}
 use Rattle.machine.proofs.Language.{takenBack, Word, accepts, Lawful, Sound, NoneAccepted, Shortest}
 use Rattle.machine.proofs.Tables.{Covered, Blocked, blocked-covered, blocked-lower, blocked-accepts-none}
@@ -137,13 +137,14 @@ Right S (closes d) = Holds S d
 Right S (answersNonempty word d) = FoundWord S word d
 Right S (answersEmpty d) = Closed S (d .table)
 
--- a verdict is right
-abbrev pub RightAnswer : System → Outcome → Type 0
-RightAnswer S (nonempty word c) = FoundWord S word c
-RightAnswer S (empty c) = Closed S (c .table)
-RightAnswer S (stepsLack c) = Unit {0}
-RightAnswer S (blockersLack c) = Unit {0}
-RightAnswer S (wordLacks c) = Unit {0}
+-- a verdict is right, in its edition
+abbrev pub RightAnswer : System → ℕ → Outcome → Type 0
+RightAnswer S edition (nonempty word c) = FoundWord S word c
+RightAnswer S edition (empty c) = Closed S (c .table)
+RightAnswer S edition (stepsLack c) = Unit {0}
+RightAnswer S edition (blockersLack c) = Unit {0}
+RightAnswer S edition (wordLacks c) = Unit {0}
+RightAnswer S edition startsFinal = (edition ≡ 2) × T (accepts S [])
 
 -- "if I is a subset of F" was answered no
 pub clear-finals : (S : System) → any (subset (S .initial)) (S .finals) ≡ false → FinalsClear S
@@ -159,6 +160,16 @@ unqualified-passes {p = p} inv f = record {
   inside = chain-lowest (inv .chain) .inside;
   backward = λ s l. unqualified-held (p .case) s (f s l);
 }
+
+-- "if I is a subset of F" is whether the empty word is accepted
+pub start-accepts : (S : System) → accepts S [] ≡ any (subset (S .initial)) (S .finals)
+unfolding accepts takenBack
+start-accepts S = refl
+
+-- where no final case contains I the empty word is not accepted
+pub clear-start : (S : System) → FinalsClear S → T (accepts S []) → ⊥
+unfolding accepts takenBack
+clear-start S clear t = let r = any-some (subset (S .initial)) (S .finals) t in clear _ (r .listed) (r .passes)
 
 module _ (S : System) (lawful : Lawful S) (clear : FinalsClear S) where
   -- each step from a configuration of which the invariant holds is right
@@ -177,31 +188,31 @@ module _ (S : System) (lawful : Lawful S) (clear : FinalsClear S) where
       at (emptying j l k t) h = frame-closed (close-holds h) j l k t
 
   -- what holds of a run that works, and of one that has ended
-  abbrev Stage : Next → Type 0
-  Stage (goesOn c) = Holds S c
-  Stage (ends outcome) = RightAnswer S outcome
+  abbrev Stage : ℕ → Next → Type 0
+  Stage edition (goesOn c) = Holds S c
+  Stage edition (ends outcome) = RightAnswer S edition outcome
 
   -- a step as the rooms judge it
-  judged-right : {rooms : Rooms} {c : Configuration} {st : Step} {n : Next} → Right S st → Judged rooms c st n → Stage n
-  judged-right r (roomToOpen l) = r
-  judged-right r extended = r
-  judged-right r (roomToBlock l) = r
-  judged-right r closed = r
-  judged-right r found = r
-  judged-right r emptied = r
-  judged-right r (noRoomToOpen l) = tt
-  judged-right r (noRoomToBlock l) = tt
+  judged-right : (edition : ℕ) {rooms : Rooms} {c : Configuration} {st : Step} {n : Next} → Right S st → Judged rooms c st n → Stage edition n
+  judged-right edition r (roomToOpen l) = r
+  judged-right edition r extended = r
+  judged-right edition r (roomToBlock l) = r
+  judged-right edition r closed = r
+  judged-right edition r found = r
+  judged-right edition r emptied = r
+  judged-right edition r (noRoomToOpen l) = tt
+  judged-right edition r (noRoomToBlock l) = tt
 
   -- so does each call, whatever it is given, as long as it grows soundly
-  pub advanced-right : {rooms : Rooms} {given : Given} {c : Configuration} {n : Next} → Sound S (given .grow) → Holds S c
-      → Advanced S rooms given c n → Stage n
-  advanced-right {given = given} {c = c} sound h (tried l j) = judged-right (step-right given sound c h) j
-  advanced-right sound h (spent l) = tt
+  pub advanced-right : (edition : ℕ) {rooms : Rooms} {given : Given} {c : Configuration} {n : Next} → Sound S (given .grow) → Holds S c
+      → Advanced S rooms given c n → Stage edition n
+  advanced-right edition {given = given} {c = c} sound h (tried l j) = judged-right edition (step-right given sound c h) j
+  advanced-right edition sound h (spent l) = tt
 
--- the answer at the start is right
-pub start-right : (S : System) → any (subset (S .initial)) (S .finals) ≡ true → RightAnswer S (nonempty [] beginning)
-unfolding beginning accepts takenBack
-start-right S e = record {
-  shortest = record { symbols = λ s m. absurd (in-none m); accepted = holds e; least = λ other w u. omega arith };
+-- the empty word is found at the start
+pub start-found : (S : System) → any (subset (S .initial)) (S .finals) ≡ true → FoundWord S [] beginning
+unfolding beginning
+start-found S e = record {
+  shortest = record { symbols = λ s m. absurd (in-none m); accepted = holds (start-accepts S ∙ e); least = λ other w u. omega arith };
   long = refl;
 }

@@ -247,10 +247,11 @@ pub record Rooms : Type 0 where
   pub word : ℕ
 
 -- How a run ends, with the configuration in which it does: a word was found; the frame is the table; or the machine stands still for want of
--- steps, of a place for a blocker, or of a place for a pending case.
+-- steps, of a place for a blocker, or of a place for a pending case. Edition 2 has one end more: the start is final already, and nothing was done.
 pub data Outcome : Type 0 where
   nonempty : List ℕ → Configuration → Outcome
   empty stepsLack blockersLack wordLacks : Configuration → Outcome
+  startsFinal : Outcome
 
 -- what comes of a step where it was made or not: the next configuration, or the run's end
 pub data Next : Type 0 where
@@ -265,6 +266,7 @@ comesTo (ends (empty c)) = c
 comesTo (ends (stepsLack c)) = c
 comesTo (ends (blockersLack c)) = c
 comesTo (ends (wordLacks c)) = c
+comesTo (ends startsFinal) = beginning
 
 -- "then the room that the step needs (3 or 4)": an open lacks room where "the level equals the word room"; a block that "finds no place" would
 -- leave more blockers than there are places ("Room is judged after the leaving"). A step without room is not made.
@@ -287,10 +289,14 @@ unfoldable pub chain : System → Rooms → Next → List Given → Next
 chain S rooms n [] = n
 chain S rooms n (given ∷ later) = chain S rooms (advance S rooms given n) later
 
--- "Start: if I is a subset of F, answer 1 with the empty word and 0 steps. Otherwise steps follow": one of the final cases contains I
-unfoldable pub begin : System → Next
-begin S = choose (any (subset (S .initial)) (S .finals)) (ends (nonempty [] beginning)) (goesOn beginning)
+-- "answer 1 with the empty word and 0 steps"; 02, 6: "1 answers as now, 2 answers such a start by 5"
+unfoldable pub startAnswer : ℕ → Outcome
+startAnswer edition = choose (eqb edition 2) startsFinal (nonempty [] beginning)
+
+-- "Start: if I is a subset of F, answer .. Otherwise steps follow": one of the final cases contains I
+unfoldable pub begin : System → ℕ → Next
+begin S edition = choose (any (subset (S .initial)) (S .finals)) (ends (startAnswer edition)) (goesOn beginning)
 
 -- a run: begin, then calls that are all given the same: as many as its allowance has steps, and one that finds it used up
-unfoldable pub machine : System → Rooms → Given → Next
-machine S rooms given = chain S rooms (begin S) (replicate (suc (given .allowance)) given)
+unfoldable pub machine : System → Rooms → ℕ → Given → Next
+machine S rooms edition given = chain S rooms (begin S edition) (replicate (suc (given .allowance)) given)

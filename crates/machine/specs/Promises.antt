@@ -21,7 +21,7 @@ use Rattle.machine.specs.Meaning.{Closed, EnteredInOrder, WorksIn, Ended
 use Rattle.machine.specs.Why.{Reason, byBlocker, byStart, nothing, why, FirstCovering, LowestAbsent}
 use Rattle.machine.specs.Print.{printOf, printRun}
 use Rattle.machine.specs.Lent.{blockersFrom, blockersIn, column, eachTable}
-use Rattle.machine.specs.Runs.{Lent, Terms, Result, systemOf, roomsOf, givenOf, endOf, resultOf, checkRun, runOf}
+use Rattle.machine.specs.Runs.{Lent, zeroed, Terms, Result, systemOf, roomsOf, givenOf, endOf, resultOf, checkRun, runOf}
 
 -- a symbol of the word is k or above
 pub record HasUnknown (image word : List ℕ) : Type 0 where
@@ -33,36 +33,45 @@ pub record HasUnknown (image word : List ℕ) : Type 0 where
 abbrev pub heldBy : Result → List Blocker
 heldBy r = blockersFrom (r .tables .room) (r .blockers) 0
 
--- refused: "From 20 up the other four are 0 and no lent place changes."
-pub record Refused (lent : Lent) (number : ℕ) (r : Result) : Type 0 where
+-- a number alone: the other four are 0, and the lent tables then hold this
+pub record Alone (number : ℕ) (tables-after : Lent) (r : Result) : Type 0 where
   pub under : r .number ≡ number
   pub no-steps : r .steps ≡ 0
   pub no-level : r .level ≡ 0
   pub no-blockers : r .blockers ≡ 0
   pub no-hints : r .accepted ≡ 0
-  pub untouched : r .tables ≡ lent
+  pub leaves : r .tables ≡ tables-after
 
--- "nonempty": the symbol table begins with an accepted word, as long as the level says, and has 0 after it; no accepted word has fewer symbols
-pub record WordFound (image : List ℕ) (lent : Lent) (r : Result) : Type 0 where
+-- refused: "From 20 up the other four are 0 and no lent place changes."
+abbrev pub Refused : Lent → ℕ → Result → Type 0
+Refused lent number = Alone number lent
+
+-- "nonempty": the symbol table begins with an accepted word, as long as the level says, and has 0 after it; no accepted word has fewer symbols. In
+-- edition 2 it is not the empty word.
+pub record WordFound (image : List ℕ) (lent : Lent) (edition : ℕ) (r : Result) : Type 0 where
   pub word : List ℕ
   pub fits : length word ≤ length (lent .symbols)
   pub stands : r .tables .symbols ≡ word ++ replicate (length (lent .symbols) - length word) 0
   pub accepted : Accepted (automatonOf image) word
   pub long : length word ≡ r .level
   pub shortest : (other : List ℕ) → Accepted (automatonOf image) other → length word ≤ length other
+  pub some-symbol : edition ≡ 2 → 1 ≤ length word
 
--- the rules by which a run that was not refused is judged
-pub record Rules (image : List ℕ) (lent : Lent) (r : Result) : Type 0 where
+-- the rules by which a run that was not refused is judged, under its edition
+pub record Rules (image : List ℕ) (lent : Lent) (edition : ℕ) (r : Result) : Type 0 where
   -- ""Nonempty" only with a word accepted by the definition of Chandra, Kozen and Stockmeyer"; "their words are shortest"
-  pub nonempty : r .number ≡ 1 → WordFound image lent r
+  pub nonempty : r .number ≡ 1 → WordFound image lent edition r
   -- ""empty" only if no word is accepted, and then with blockers closed under backward steps"
   pub empty : r .number ≡ 0 → (word : List ℕ) → Accepted (automatonOf image) word → ⊥
   pub empty-frame : r .number ≡ 0 → Closed (systemOf image) (heldBy r)
+  -- 02, 6: "a start already final .. 2 answers such a start by 5": exactly if the empty word is accepted; ".. no steps, the rooms all 0"
+  pub starts-final : (r .number ≡ 5) ↔ ((edition ≡ 2) × Accepted (automatonOf image) [])
+  pub starts-final-leaves : r .number ≡ 5 → Alone 5 (zeroed lent) r
   -- "Below 20, pending cases are all 0; the symbol table holds .. 0 elsewhere; the blocker room holds the entries in table order, with 0 after them."
-  pub other : r .number ≤ 4
+  pub other : r .number ≤ 5
   pub held-fits : r .blockers ≤ length (lent .room .masks)
-  pub leaves-cases : r .tables .cases ≡ replicate (length (lent .cases)) 0
-  pub leaves-symbols : (r .number ≡ 1 → ⊥) → r .tables .symbols ≡ replicate (length (lent .symbols)) 0
+  pub leaves-cases : r .tables .cases ≡ zeroed lent .cases
+  pub leaves-symbols : (r .number ≡ 1 → ⊥) → r .tables .symbols ≡ zeroed lent .symbols
   pub leaves-blockers : r .tables .room
       ≡ eachTable (λ field before. column field (heldBy r) ++ replicate (length before - r .blockers) 0) (lent .room)
   -- 02, 10: the steps with which its blockers entered rise in table order, from 1 on and up to the steps made
@@ -72,16 +81,24 @@ pub record Rules (image : List ℕ) (lent : Lent) (r : Result) : Type 0 where
 pub record RunEnded (image : List ℕ) (lent : Lent) (terms : Terms) (r : Result) : Type 0 where
   pub outcome : Outcome
   pub shows : r ≡ resultOf lent (ends outcome)
-  pub how : (begin (systemOf image) ≡ ends outcome) ⊎ EndedBy (systemOf image) (roomsOf lent) (givenOf image terms) outcome
+  pub how : (begin (systemOf image) (terms .edition) ≡ ends outcome)
+      ⊎ EndedBy (systemOf image) (roomsOf lent) (terms .edition) (givenOf image terms) outcome
 
 -- the same terms with another allowance
 abbrev pub withAllowance : ℕ → Terms → Terms
-withAllowance allowance terms = record { hints = terms .hints; allowance = allowance }
+withAllowance allowance terms = record { hints = terms .hints; allowance = allowance; edition = terms .edition }
 
--- "A run's verdict is its number where that is 0 ("empty") or 1 ("nonempty")": the run has one, after at most `most` steps, and any larger rooms and
--- allowance give the same result
+-- the same terms in another edition
+abbrev pub inEdition : ℕ → Terms → Terms
+inEdition edition terms = record { hints = terms .hints; allowance = terms .allowance; edition = edition }
+
+-- "A run's verdict is its number where that is 0 ("empty") or 1 ("nonempty")"; 02, 6: "5 being a verdict of edition 2"
+abbrev pub Verdict : ℕ → ℕ → Type 0
+Verdict edition number = (number ≤ 1) ⊎ ((edition ≡ 2) × (number ≡ 5))
+
+-- the run has a verdict, after at most `most` steps, and any larger rooms and allowance give the same result
 pub record Decides (image : List ℕ) (lent : Lent) (terms : Terms) (most : ℕ) (r : Result) : Type 0 where
-  pub verdict : r .number ≤ 1
+  pub verdict : Verdict (terms .edition) (r .number)
   pub in-time : r .steps ≤ most
   pub unbounded : (rooms : Rooms) (more : ℕ) → length (lent .room .masks) ≤ rooms .blockers → length (lent .cases) ≤ rooms .word
       → terms .allowance ≤ more → r ≡ resultOf lent (endOf image rooms (withAllowance more terms))
@@ -92,7 +109,10 @@ pub record RunPromises (image : List ℕ) (lent : Lent) (terms : Terms) (r : Res
   pub refuses : (checkRun image lent terms ≡ 0 → ⊥) → Refused lent (checkRun image lent terms) r
   pub refuses-image : (Valid image → ⊥) → Refused lent (checkImage image) r
   pub refuses-only : 20 ≤ r .number → checkRun image lent terms ≡ 0 → ⊥
-  pub judged : checkRun image lent terms ≡ 0 → Rules image lent r
+  -- 02, 6: "an edition other than 1 or 2 gives 36 (unknown edition), after 31": whatever refuses the run in edition 1 comes first
+  pub refuses-edition : (terms .edition ≡ 1 → ⊥) → (terms .edition ≡ 2 → ⊥) → checkRun image lent (inEdition 1 terms) ≡ 0 → Refused lent 36 r
+  pub edition-after : (checkRun image lent (inEdition 1 terms) ≡ 0 → ⊥) → Refused lent (checkRun image lent (inEdition 1 terms)) r
+  pub judged : checkRun image lent terms ≡ 0 → Rules image lent (terms .edition) r
   -- "Any other run stops at the very step where 01's machine lacks steps or room."
   pub ended : checkRun image lent terms ≡ 0 → RunEnded image lent terms r
   -- no run makes more steps than it is allowed
@@ -161,16 +181,20 @@ pub record Promises : Type 0 where
   pub word-test-same : (image other word : List ℕ) → Valid image → Valid other → HoldOne image other → wordTest image word ≡ wordTest other word
   -- every run keeps its promises, whatever it is lent
   pub runs : (image : List ℕ) (lent : Lent) (terms : Terms) → RunPromises image lent terms (runOf image lent terms)
-  -- "Whatever hints, rooms and allowances, two runs on one valid automaton that reach a verdict agree"
-  pub runs-agree : (image other : List ℕ) (lent lent′ : Lent) (terms terms′ : Terms) → HoldOne image other
-      → runOf image lent terms .number ≤ 1 → runOf other lent′ terms′ .number ≤ 1 → Agreed (runOf image lent terms) (runOf other lent′ terms′)
+  -- "Whatever hints, rooms and allowances, two runs on one valid automaton that reach a verdict agree", within one edition
+  pub runs-agree : (image other : List ℕ) (lent lent′ : Lent) (terms terms′ : Terms) → HoldOne image other → terms .edition ≡ terms′ .edition
+      → Verdict (terms .edition) (runOf image lent terms .number) → Verdict (terms′ .edition) (runOf other lent′ terms′ .number)
+      → Agreed (runOf image lent terms) (runOf other lent′ terms′)
+  -- 02, 6: "1 answers as now, 2 answers such a start by 5": on any other start the two editions are one
+  pub editions-agree : (image : List ℕ) (lent : Lent) (terms : Terms) → (Accepted (automatonOf image) [] → ⊥)
+      → runOf image lent (inEdition 1 terms) ≡ runOf image lent (inEdition 2 terms)
   -- "X is no longer pending": a block leaves the cases pending that waited above X, and no other
   pub block-unpends : (image : List ℕ) (rooms : Rooms) (terms : Terms) (X : Pending) (rest : List Pending) (c d : Configuration) → Valid image
-      → WorksIn (systemOf image) rooms (givenOf image terms) c → c .pending ≡ X ∷ rest → step (systemOf image) (givenOf image terms) c ≡ blocks d
+      → WorksIn (systemOf image) rooms (terms .edition) (givenOf image terms) c → c .pending ≡ X ∷ rest → step (systemOf image) (givenOf image terms) c ≡ blocks d
       → d .pending ≡ rest
   -- 02, 10, of every table that a run comes to on its way
   pub entered-in-order : (image : List ℕ) (rooms : Rooms) (terms : Terms) (c : Configuration) → Valid image
-      → WorksIn (systemOf image) rooms (givenOf image terms) c → EnteredInOrder 0 (c .steps) (c .table)
+      → WorksIn (systemOf image) rooms (terms .edition) (givenOf image terms) c → EnteredInOrder 0 (c .steps) (c .table)
   -- 02, 2: why a case is blocked at a level, for every table; I is a mask, which has 64 bits
   pub why-tells : (initial : ℕ) (table : List Blocker) (i X : ℕ) → T (within 64 initial) → WhyPromises initial table i X (why initial table i X)
   -- "Of masks and levels of unlike length, the shorter table says how many blockers there are."

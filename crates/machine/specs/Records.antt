@@ -4,9 +4,9 @@ use Prim.Native.Nat.{ℕ}
 use mathlib.Core.Bool.{Bool}
 use mathlib.Core.List.{List}
 use lib.ListN.{length}
-use Rattle.machine.specs.Machine.{Configuration, Next, goesOn, ends, comesTo, advance}
+use Rattle.machine.specs.Machine.{Configuration, Given, Next, goesOn, ends, comesTo, advance}
 use Rattle.machine.specs.Lent.{blockersFrom, pendingFirst}
-use Rattle.machine.specs.Runs.{Lent, Terms, systemOf, roomsOf, givenOf, numberOf, tablesAfter}
+use Rattle.machine.specs.Runs.{Lent, systemOf, roomsOf, numberOf, tablesAfter}
 
 -- What a run carries from one step to the next: 6 while it works, else the number of its end; of the blocker room the first `held` places are in use, of
 -- the word room the first `pending`.
@@ -60,6 +60,6 @@ recordOf n = record {
 unfoldable pub after : Stage → Next → Stage
 after before n = record { tables = tablesAfter (before .run .held) (before .run .pending) (before .tables) n; run = recordOf n }
 
--- one step of a run that works, on these terms
-unfoldable pub stepOf : List ℕ → Terms → Stage → Stage
-stepOf image terms at = after at (advance (systemOf image) (roomsOf (at .tables)) (givenOf image terms) (goesOn (configurationOf at)))
+-- one step of a run that works, given this
+unfoldable pub stepOf : List ℕ → Given → Stage → Stage
+stepOf image given at = after at (advance (systemOf image) (roomsOf (at .tables)) given (goesOn (configurationOf at)))

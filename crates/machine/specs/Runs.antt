@@ -3,14 +3,14 @@ use Prim.Native.Nat.{ℕ, zero, suc}
 use mathlib.Core.Bool.{Bool}
 use mathlib.Core.List.{List, [], _∷_}
 use lib.Dec.{eqb, ltb}
-use lib.ListN.{length}
+use lib.ListN.{length, replicate}
 use Rattle.lists.specs.Tests.{_or_, neg}
 use Rattle.automata.specs.Image.{statesOf, symbolsOf, initialOf, finalOf, rowsOf, check, checkImage}
 use Rattle.automata.specs.Automaton.{backward}
 use Rattle.machine.specs.System.{System}
 use Rattle.machine.specs.Machine.{Given, Rooms, byStates, Next, goesOn, ends, comesTo, machine}
-use Rattle.machine.specs.Machine.{nonempty, empty, stepsLack, blockersLack, wordLacks}
-use Rattle.machine.specs.Lent.{BlockerRoom, columnBack, caseOf, symbolOf, placed, withTable}
+use Rattle.machine.specs.Machine.{nonempty, empty, stepsLack, blockersLack, wordLacks, startsFinal}
+use Rattle.machine.specs.Lent.{BlockerRoom, columnBack, caseOf, symbolOf, placed, eachTable, withTable}
 
 -- the backward system of an image: F is its one final case
 abbrev pub systemOf : List ℕ → System
@@ -28,14 +28,26 @@ pub record Lent : Type 0 where
   pub cases : List ℕ
   pub symbols : List ℕ
 
--- what a run is given beside the image and the rooms: "hints (read only) and an allowance"
+-- every place of them 0
+abbrev pub zeroed : Lent → Lent
+zeroed lent = record {
+  room = eachTable (λ field before. replicate (length before) 0) (lent .room);
+  cases = replicate (length (lent .cases)) 0;
+  symbols = replicate (length (lent .symbols)) 0;
+}
+
+-- what a run is given beside the image and the rooms: "hints (read only) and an allowance"; 02, 6: "A run gets an edition"
 pub record Terms : Type 0 where
   pub hints : List ℕ
   pub allowance : ℕ
+  pub edition : ℕ
 
--- what the terms give each of the machine's steps on the image
+-- what a step on the image is given, and what a run's terms give each of its steps: the edition is the start's alone
+abbrev pub stepGiven : List ℕ → List ℕ → ℕ → Given
+stepGiven image hints allowance = record { grow = byStates (systemOf image); hints = hints; allowance = allowance }
+
 abbrev pub givenOf : List ℕ → Terms → Given
-givenOf image terms = record { grow = byStates (systemOf image); hints = terms .hints; allowance = terms .allowance }
+givenOf image terms = stepGiven image (terms .hints) (terms .allowance)
 
 -- "It returns five numbers: the number, steps made, level, blockers held, hints accepted"; and what the lent tables then hold
 pub record Result : Type 0 where
@@ -50,13 +62,14 @@ pub record Result : Type 0 where
 unfoldable pub refused : Lent → ℕ → Result
 refused lent number = record { number = number; steps = 0; level = 0; blockers = 0; accepted = 0; tables = lent }
 
--- 01's number for each way in which a run ends, and 6 while it works
+-- 01's number for each way in which a run ends, 02's for a start that is final already, and 6 while the run works
 unfoldable pub numberOf : Next → ℕ
 numberOf (ends (empty c)) = 0
 numberOf (ends (nonempty word c)) = 1
 numberOf (ends (stepsLack c)) = 2
 numberOf (ends (blockersLack c)) = 3
 numberOf (ends (wordLacks c)) = 4
+numberOf (ends startsFinal) = 5
 numberOf (goesOn c) = 6
 
 -- what the word room holds: the pending cases and their symbols while a run works; then no case, and the word if one was found
@@ -71,6 +84,7 @@ symbolsIn (ends (empty c)) = []
 symbolsIn (ends (stepsLack c)) = []
 symbolsIn (ends (blockersLack c)) = []
 symbolsIn (ends (wordLacks c)) = []
+symbolsIn (ends startsFinal) = []
 
 -- The lent tables where the machine has come to n, of which `held` and `waiting` places were in use before. "Below 20, pending cases are all 0; the
 -- symbol table holds the word from its first place on "hit" .. and 0 elsewhere; the blocker room holds the entries in table order, with 0 after them."
@@ -102,20 +116,24 @@ oddRooms lent =
 unfoldable pub oversize : Lent → List ℕ → Bool
 oversize lent hints = ltb 65536 (length (lent .room .masks)) or ltb 65536 (length (lent .cases)) or ltb 65536 (length hints)
 
--- the image's checks, then 30, then 31; 0 where none applies
-unfoldable pub checkRooms : Lent → List ℕ → ℕ → ℕ
-checkRooms lent hints zero = check (oddRooms lent) 30 (check (oversize lent hints) 31 0)
-checkRooms lent hints (suc number) = suc number
+-- 36: "an edition other than 1 or 2"
+unfoldable pub unknownEdition : ℕ → Bool
+unknownEdition edition = neg (eqb edition 1 or eqb edition 2)
+
+-- the image's checks, then 30, 31 and 36; 0 where none applies
+unfoldable pub checkTerms : Lent → List ℕ → ℕ → ℕ → ℕ
+checkTerms lent hints edition zero = check (oddRooms lent) 30 (check (oversize lent hints) 31 (check (unknownEdition edition) 36 0))
+checkTerms lent hints edition (suc number) = suc number
 
 unfoldable pub checkRun : List ℕ → Lent → Terms → ℕ
-checkRun image lent terms = checkRooms lent (terms .hints) (checkImage image)
+checkRun image lent terms = checkTerms lent (terms .hints) (terms .edition) (checkImage image)
 
 -- the end of the run of 01's machine on the image, in rooms of so many places
 abbrev pub roomsOf : Lent → Rooms
 roomsOf lent = record { blockers = length (lent .room .masks); word = length (lent .cases) }
 
 unfoldable pub endOf : List ℕ → Rooms → Terms → Next
-endOf image rooms terms = machine (systemOf image) rooms (givenOf image terms)
+endOf image rooms terms = machine (systemOf image) rooms (terms .edition) (givenOf image terms)
 
 unfoldable pub runWith : List ℕ → Lent → Terms → ℕ → Result
 runWith image lent terms zero = resultOf lent (endOf image (roomsOf lent) terms)

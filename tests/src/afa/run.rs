@@ -5,7 +5,7 @@ use super::bytes_of;
 use crate::compare::hexadecimal;
 use crate::fault;
 use crate::guarded::{Edge, ReadOnly, Untouchable, Writable, EDGES};
-use crate::tables::{Answer, Rooms, Tables};
+use crate::tables::{Answer, Rooms, Tables, Terms};
 
 /// As `include/afa.h` declares it.
 pub mod interface {
@@ -26,19 +26,14 @@ pub mod interface {
             hints: *const u64,
             hints_len: usize,
             allowance: u64,
+            edition: u64,
             counts: *mut u64,
         ) -> u64;
     }
 }
 
 /// `afa_run` on slices as they are, and not on record: the benchmark times it alone.
-pub fn run(
-    image: &[u8],
-    rooms: Rooms,
-    hints: &[u64],
-    allowance: u64,
-    counts: &mut [u64; 4],
-) -> u64 {
+pub fn run(image: &[u8], rooms: Rooms, terms: Terms<&[u64]>, counts: &mut [u64; 4]) -> u64 {
     // SAFETY: the pointers are to as many values as the lengths say.
     unsafe {
         interface::afa_run(
@@ -54,31 +49,34 @@ pub fn run(
             rooms.cases.len(),
             rooms.symbols.as_mut_ptr(),
             rooms.symbols.len(),
-            hints.as_ptr(),
-            hints.len(),
-            allowance,
+            terms.hints.as_ptr(),
+            terms.hints.len(),
+            terms.allowance,
+            terms.edition,
             counts.as_mut_ptr(),
         )
     }
 }
 
-/// `afa_run` with five tables and hints of these lengths that may not be touched, for lengths that
-/// must be refused.
+/// `afa_run` with five tables and hints of these lengths that may not be touched, for what must be
+/// refused.
 pub fn run_untouchable(
     image: &[u8],
     lengths: [usize; 6],
+    edition: u64,
     memory: &Untouchable,
     edge: Edge,
     counts: &mut [u64; 4],
 ) -> u64 {
     let [masks, levels, entered, cases, symbols, hints] = lengths;
     let shown = lengths.map(usize::to_be_bytes);
-    let lent: [fault::Lent; 2] = [
+    let lent: [fault::Lent; 3] = [
         ("image", image),
         (
             "lengths of masks, levels, entered, cases, symbols and hints",
             shown.as_flattened(),
         ),
+        ("edition", &edition.to_be_bytes()),
     ];
     // SAFETY: the pointers are to as many values as the lengths say; whoever touches them ends in a
     // signal, which is what is tested.
@@ -99,6 +97,7 @@ pub fn run_untouchable(
             memory.lend(hints, edge),
             hints,
             100,
+            edition,
             counts.as_mut_ptr(),
         )
     })
@@ -136,18 +135,11 @@ impl Runner {
     }
 
     /// The answer, and what the tables hold after it.
-    pub fn run(
-        &mut self,
-        image: &[u8],
-        before: &Tables,
-        hints: &[u64],
-        allowance: u64,
-    ) -> (Answer, Tables) {
-        let [first, second] = EDGES.map(|edge| self.run_at(edge, image, before, hints, allowance));
+    pub fn run(&mut self, image: &[u8], before: &Tables, terms: Terms<&[u64]>) -> (Answer, Tables) {
+        let [first, second] = EDGES.map(|edge| self.run_at(edge, image, before, terms));
         assert!(
             first == second,
-            "afa_run answers by where the slices stand: {}, rooms {:?}, allowance {allowance}, \
-             hints {hints:x?}: {:?} and {:?}",
+            "afa_run answers by where the slices stand: {}, rooms {:?}, {terms:?}: {:?} and {:?}",
             hexadecimal(image),
             before.lengths(),
             first.0,
@@ -161,8 +153,7 @@ impl Runner {
         edge: Edge,
         image: &[u8],
         before: &Tables,
-        hints: &[u64],
-        allowance: u64,
+        terms: Terms<&[u64]>,
     ) -> (Answer, Tables) {
         let image = self.image.lend(image, edge);
         let masks = self.masks.lend(&before.masks, edge);
@@ -170,7 +161,8 @@ impl Runner {
         let entered = self.entered.lend(&before.entered, edge);
         let cases = self.cases.lend(&before.cases, edge);
         let symbols = self.symbols.lend(&before.symbols, edge);
-        let hints = self.hints.lend(hints, edge);
+        let hints = self.hints.lend(terms.hints, edge);
+        let terms = Terms { hints, ..terms };
         let counts = self.counts.lend(&COUNTS_BEFORE, edge);
         let counts: &mut [u64; 4] = counts.try_into().expect("four numbers");
         let number = {
@@ -182,18 +174,17 @@ impl Runner {
                 symbols: &mut *symbols,
             };
             let lengths = before.lengths().map(usize::to_be_bytes);
-            let lent: [fault::Lent; 4] = [
+            let lent: [fault::Lent; 5] = [
                 ("image", image),
                 (
                     "lengths of masks, levels, entered, cases and symbols",
                     lengths.as_flattened(),
                 ),
-                ("allowance", &allowance.to_be_bytes()),
+                ("allowance", &terms.allowance.to_be_bytes()),
+                ("edition", &terms.edition.to_be_bytes()),
                 ("hints, lowest byte first", bytes_of(hints)),
             ];
-            fault::on_record("afa_run", &lent, || {
-                run(image, rooms, hints, allowance, counts)
-            })
+            fault::on_record("afa_run", &lent, || run(image, rooms, terms, counts))
         };
         let [steps, level, blockers, hints_accepted] = *counts;
         let answer = Answer::of_numbers([number, steps, level, blockers, hints_accepted]);

@@ -4,13 +4,14 @@ use crate::afa::run::Runner;
 use crate::compare::hexadecimal;
 use crate::machine::{self, Event};
 use crate::tables::{Answer, Lent, Tables};
+use std::collections::BTreeMap;
 use std::fmt::{self, Debug, Display};
 
 /// How often the answers and the events of runs were seen.
 #[derive(Clone, Debug, Default)]
 pub struct Seen {
     pub runs: usize,
-    pub by_number: [usize; 32],
+    pub by_number: BTreeMap<u64, usize>,
     pub opened_blocked: usize,
     pub extended: usize,
     pub blocked: usize,
@@ -58,27 +59,31 @@ impl Seen {
 
     fn answer(&mut self, answer: &Answer) {
         self.runs += 1;
-        self.by_number[answer.number as usize] += 1;
+        *self.by_number.entry(answer.number).or_default() += 1;
         self.highest_level = self.highest_level.max(answer.level);
         self.most_blockers = self.most_blockers.max(answer.blockers);
         self.most_steps = self.most_steps.max(answer.steps);
     }
 
-    /// Each number below 20 came at least so often.
+    /// Each of the numbers 0 to 4, which both editions have, came at least so often.
     pub fn assert_each_number(&self, least: usize) {
-        for (number, &count) in self.by_number[..5].iter().enumerate() {
+        for number in 0..5 {
+            let count = self.times(number);
             assert!(count >= least, "{number} came {count} times");
         }
+    }
+
+    /// How often the number came.
+    pub fn times(&self, number: u64) -> usize {
+        self.by_number.get(&number).copied().unwrap_or(0)
     }
 }
 
 impl Display for Seen {
     fn fmt(&self, out: &mut fmt::Formatter<'_>) -> fmt::Result {
         write!(out, "{} runs", self.runs)?;
-        for (number, count) in self.by_number.iter().enumerate() {
-            if *count > 0 {
-                write!(out, ", {count} gave {number}")?;
-            }
+        for (number, count) in &self.by_number {
+            write!(out, ", {count} gave {number}")?;
         }
         write!(
             out,
@@ -112,23 +117,21 @@ impl Comparison {
     /// The answer and the tables after it, which the machine and the library agree on.
     pub fn run(&mut self, image: &[u8], lent: &Lent, origin: &dyn Display) -> (Answer, Tables) {
         let mut tables = lent.before.clone();
+        let terms = lent.terms.lend();
         let answer =
-            machine::observed_run(image, tables.lend(), &lent.hints, lent.allowance, |event| {
-                self.seen.event(event)
-            });
+            machine::observed_run(image, tables.lend(), terms, |event| self.seen.event(event));
         self.seen.answer(&answer);
-        let answered = self
-            .runner
-            .run(image, &lent.before, &lent.hints, lent.allowance);
+        let answered = self.runner.run(image, &lent.before, terms);
         assert!(
             answered.0 == answer && answered.1 == tables,
             "afa_run\n{origin}\nimage {}\nlengths of masks, levels, entered, cases and symbols \
-             {:?}, allowance {}, {} hints {:x?}\nexpected {answer:?}\n     got {:?}{}",
+             {:?}, edition {}, allowance {}, {} hints {:x?}\nexpected {answer:?}\n     got {:?}{}",
             hexadecimal(image),
             lent.before.lengths(),
-            lent.allowance,
-            lent.hints.len(),
-            &lent.hints[..lent.hints.len().min(200)],
+            terms.edition,
+            terms.allowance,
+            terms.hints.len(),
+            &terms.hints[..terms.hints.len().min(200)],
             answered.0,
             differences(&tables, &answered.1)
         );

@@ -3,6 +3,7 @@
 use super::runs::Earlier;
 use crate::image::{all_states, Model};
 use crate::random::Random;
+use crate::tables::Terms;
 
 /// Hints for the blocks that an earlier run of the model made: case and blocker of each.
 pub fn hints(random: &mut Random, model: &Model, blocks: &[(u64, u64)]) -> Vec<u64> {
@@ -24,7 +25,11 @@ pub fn hints(random: &mut Random, model: &Model, blocks: &[(u64, u64)]) -> Vec<u
 pub fn passing_hints(random: &mut Random, image: &[u8], most: usize) -> Vec<u64> {
     let mut hints = Vec::new();
     while hints.len() < most {
-        let earlier = Earlier::new(image, &hints, u64::MAX);
+        let terms = Terms {
+            hints: &hints[..],
+            ..Terms::plain(u64::MAX)
+        };
+        let earlier = Earlier::new(image, terms);
         assert_eq!(earlier.answer.hints_accepted as usize, hints.len());
         match earlier.blocks.get(hints.len()) {
             Some(&(case, blocker)) => hints.push(good_hint(random, case, blocker)),

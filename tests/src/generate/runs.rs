@@ -7,7 +7,7 @@ use super::{
 use crate::image::Model;
 use crate::machine::{observed_run, Event};
 use crate::random::Random;
-use crate::tables::{Answer, Lent, Tables};
+use crate::tables::{Answer, Lent, Tables, Terms, EDITIONS};
 
 pub fn run_model(random: &mut Random) -> Model {
     if random.below(1_000) == 0 {
@@ -55,6 +55,18 @@ pub fn run_model_of(random: &mut Random, states: usize, symbols: usize) -> Model
     }
 }
 
+/// An edition that there is not. Cut down to its lowest bits, it often is one that there is.
+pub fn unknown_edition(random: &mut Random) -> u64 {
+    let known = random.pick(&EDITIONS);
+    match random.below(8) {
+        0 => 0,
+        1 => 3,
+        2 | 3 => known | 1 << random.within(2..=63),
+        4 | 5 => known | random.number() << random.pick(&[8, 16, 32]) | 1 << 63,
+        _ => random.number() | 4,
+    }
+}
+
 /// A number of steps that does not take long: a block tries each state with each row.
 pub fn affordable_steps(model: &Model, row_tests: usize) -> u64 {
     let block = model.states * model.row_count().max(16);
@@ -72,32 +84,26 @@ pub struct Earlier {
 
 impl Earlier {
     /// With places enough.
-    pub fn new(image: &[u8], hints: &[u64], allowance: u64) -> Self {
+    pub fn new(image: &[u8], terms: Terms<&[u64]>) -> Self {
         let mut tables = Tables::cleared(4096, 4096);
         let (mut blocks, mut held, mut most_held) = (Vec::new(), 0, 0);
-        let answer = observed_run(
-            image,
-            tables.lend(),
-            hints,
-            allowance,
-            |event| match event {
-                Event::Blocked {
-                    pending,
-                    blocker,
-                    left,
-                    ..
-                } => {
-                    blocks.push((pending, blocker));
-                    held = held + 1 - left;
-                    most_held = most_held.max(held);
-                }
-                Event::Rose {
-                    left_before,
-                    left_behind,
-                } => held -= left_before + left_behind,
-                _ => {}
-            },
-        );
+        let answer = observed_run(image, tables.lend(), terms, |event| match event {
+            Event::Blocked {
+                pending,
+                blocker,
+                left,
+                ..
+            } => {
+                blocks.push((pending, blocker));
+                held = held + 1 - left;
+                most_held = most_held.max(held);
+            }
+            Event::Rose {
+                left_before,
+                left_behind,
+            } => held -= left_before + left_behind,
+            _ => {}
+        });
         Earlier {
             answer,
             blocks,
@@ -106,8 +112,8 @@ impl Earlier {
     }
 }
 
-/// Rooms, hints and an allowance about those that the earlier run used. No run with these takes much
-/// longer than `affordable` steps.
+/// Rooms, hints and an allowance about those that the earlier run used, and either edition. No run with
+/// these takes much longer than `affordable` steps.
 pub fn lent(random: &mut Random, model: &Model, earlier: &Earlier, affordable: u64) -> Lent {
     let blocker_room = room(random, earlier.most_held);
     let word_room = room(random, earlier.answer.level as usize);
@@ -123,10 +129,14 @@ pub fn lent(random: &mut Random, model: &Model, earlier: &Earlier, affordable: u
         _ if ends => random.pick(&[1 << 32, u64::MAX - 1, u64::MAX]),
         _ => affordable,
     };
+    let edition = random.pick(&EDITIONS);
     Lent {
         before: Tables::filled(random, blocker_room, word_room),
-        hints,
-        allowance,
+        terms: Terms {
+            hints,
+            allowance,
+            edition,
+        },
     }
 }
 

@@ -1,4 +1,4 @@
-use Rattle.checker.proofs.Running.{start-final, start-works}
+use Rattle.checker.proofs.Running.{start-final, start-final-second, start-works}
 use borrow.Author.Needs.{needs}
 use Rattle.checker.proofs.run.begin.Statement.{statement}
 use Rattle.checker.proofs.run.begin.Tie as tie
@@ -10,10 +10,13 @@ subset-requires : tie.Need-subset-requires
 subset-requires c κs = search needs
 
 returns : tie.Need-returns
-returns c = search (start-final, needs)
+returns c = search (start-final-second, needs)
 
 returns-2 : tie.Need-returns-2
-returns-2 c = search (start-works, needs)
+returns-2 c = search (start-final, needs)
+
+returns-3 : tie.Need-returns-3
+returns-3 c = search (start-works, needs)
 
 pub begin-spec : {M : Type 1} → statement M
-begin-spec = tie.close (tie.spec subset-requires returns returns-2)
+begin-spec = tie.close (tie.spec subset-requires returns returns-2 returns-3)

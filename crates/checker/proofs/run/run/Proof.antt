@@ -1,11 +1,11 @@
-use Rattle.checker.proofs.Checking.{run-refuses-image, run-refuses-rooms, run-runnable, run-goes}
+use Rattle.checker.proofs.Checking.{run-refuses-image, run-refuses-terms, run-runnable, run-goes}
 use borrow.Author.Needs.{needs}
 use Rattle.checker.proofs.run.run.Statement.{statement}
 use Rattle.checker.proofs.run.run.Tie as tie
 use Rattle.checker.proofs.run.run.Reads as reads
 use Rattle.checker.proofs.run.run.Lts as lts
 use Rattle.automata.proofs.image.read_image.Reads as read-image-reads
-use Rattle.checker.proofs.run.check_rooms.Reads as check-rooms-reads
+use Rattle.checker.proofs.run.check_terms.Reads as check-terms-reads
 use Rattle.checker.proofs.run.go.Reads as go-reads
 use Rattle.checker.proofs.run.refuse.Reads as refuse-reads
 
@@ -24,8 +24,8 @@ refuse-requires c κs = search needs
 enum-known-head : tie.Need-enum-known-head
 enum-known-head c = search needs
 
-check-rooms-requires : tie.Need-check-rooms-requires
-check-rooms-requires c κs = search needs
+check-terms-requires : tie.Need-check-terms-requires
+check-terms-requires c κs = search needs
 
 refuse-requires-2 : tie.Need-refuse-requires-2
 refuse-requires-2 c κs = search needs
@@ -46,10 +46,10 @@ same-length-5 : tie.Need-same-length-5
 same-length-5 c = search needs
 
 returns : tie.Need-returns
-returns c = run-refuses-rooms _ _ _ _ _ _ _ (c .before .before .before .before .before .before .before .before .before .before .before .read-image .ensures) _ (c .before .before .before .before .before .before .before .before .before .head .given .1) _ (c .before .before .check-rooms .ensures) _ (search needs) (c .refuse2 .ensures)
+returns c = run-refuses-terms _ _ _ _ _ _ (c .before .before .before .before .before .before .before .before .before .before .before .read-image .ensures) _ (c .before .before .before .before .before .before .before .before .before .head .given .1) _ (c .before .before .check-terms .ensures) _ (search needs) (c .refuse2 .ensures)
 
 go-requires : tie.Need-go-requires
-go-requires c κs = run-runnable _ _ _ _ _ _ (c .before .before .before .before .before .before .before .before .before .before .before .before .before .before .before .read-image .ensures) _ (c .before .before .before .before .before .before .before .before .before .before .before .before .before .head .given .1) _ (c .before .before .before .before .before .before .check-rooms .ensures) (search needs)
+go-requires c κs = run-runnable _ _ _ _ _ _ _ (c .before .before .before .before .before .before .before .before .before .before .before .before .before .before .before .read-image .ensures) _ (c .before .before .before .before .before .before .before .before .before .before .before .before .before .head .given .1) _ (c .before .before .before .before .before .before .check-terms .ensures) (search needs)
 
 returns-2 : tie.Need-returns-2
 returns-2 c = search (run-refuses-image, needs)
@@ -81,7 +81,7 @@ run-spec =
     cast-refuse
     refuse-requires
     enum-known-head
-    check-rooms-requires
+    check-terms-requires
     refuse-requires-2
     same-length
     same-length-2
