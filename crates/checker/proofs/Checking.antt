@@ -152,13 +152,11 @@ module _ {image : List ℕ} {head : Head} {room room′ : BlockerRoom} {cases sy
         other-places (length cases) (length cases′) symbols symbols′ (symbolsIn n) (rooms .word-room) (rooms′ .word-room) (cleared .new-symbols),
       )
 
-  pub go-is : (terms : Terms) {counts r : Counts} {end-room : BlockerRoom} {end-cases end-symbols : List ℕ} → r ≡ counts
-      → resultWith counts end-room end-cases end-symbols ≡ machineResult image (lentOf room′ cases′ symbols′) terms
-      → resultWith r end-room end-cases end-symbols ≡ machineResult image (lentOf room cases symbols) terms
+  pub go-is : (terms : Terms) {result : Result} → result ≡ machineResult image (lentOf room′ cases′ symbols′) terms
+      → result ≡ machineResult image (lentOf room cases symbols) terms
   unfolding machineResult
-  go-is terms {end-room = er} {end-cases = ec} {end-symbols = es} same e =
-      ap (λ (x : Counts). resultWith x er ec es) same
-      ∙ e
+  go-is terms e =
+      e
       ∙ result-cleared (endOf image (roomsOf (lentOf room′ cases′ symbols′)) terms)
       ∙ ap₂ (λ (b w : ℕ). resultOf (lentOf room cases symbols) (endOf image (record { blockers = b; word = w }) terms))
       masks-length (zeros-length cases cases′ (cleared .new-cases))

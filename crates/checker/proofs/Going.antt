@@ -28,6 +28,7 @@ use Rattle.machine.proofs.RecordSteps.{shown, Fitting, working-fits, shown-mask
 use Rattle.blockers.proofs.Closing.{AsLong, long-itself, long-further}
 use Rattle.choices.specs.Found.{ReadAs}
 use Rattle.checker.specs.declared.record.Run.{Run}
+use Rattle.checker.specs.declared.run.Counts.{Counts}
 use Rattle.checker.specs.Stage.{lentOf, recordIn, stage, Ready}
 use Rattle.checker.specs.Whole.{Cleared, Runnable, countsIn, resultWith, startsWith, startRecord, machineResult}
 
@@ -233,6 +234,6 @@ module _ {image : List ℕ} {head : Head} {lent : Lent} {terms : Terms} {room : 
     pub drive-less : remaining (terms .allowance) (later .answer) (later .steps) < remaining (terms .allowance) (run .answer) (run .steps)
     drive-less = going-less image lent terms valid even (driven .going) six made
 
-  pub drive-ends : (run .answer ≡ 6 → ⊥) → resultWith (countsIn run) room cases symbols ≡ machineResult image lent terms
+  pub drive-ends : {counts : Counts} → (run .answer ≡ 6 → ⊥) → counts ≡ countsIn run → resultWith counts room cases symbols ≡ machineResult image lent terms
   unfolding machineResult
-  drive-ends n = going-ends image lent terms (driven .going) n
+  drive-ends n counted = rw counted (going-ends image lent terms (driven .going) n)

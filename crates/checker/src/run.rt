@@ -105,7 +105,21 @@ fn check_terms(
     }
 }
 
-// Steps until the run has ended, in tables that hold only 0.
+// The five numbers of a run that has ended.
+fn count_up(run: Run) -> Counts
+    ensures { λ r. ⌜ r ≡ countsIn run ⌝ }
+{
+    let level = run.level;
+    Counts {
+        number: run.answer as u64,
+        steps: run.steps,
+        level,
+        blockers: run.held as u64,
+        accepted: run.accepted,
+    }
+}
+
+// The start, then steps until the run has ended, in tables that hold only 0.
 fn drive(
     image: &[u8],
     head: Head,
@@ -117,9 +131,9 @@ fn drive(
     hints: &[u64],
     allowance: u64,
     edition: u64,
-) -> Run
+) -> Counts
     requires { ⌜ Runnable (now image) head (roomOf (now masks) (now levels) (now entered)) (now cases) (now symbols) × Cleared (roomOf (now masks) (now levels) (now entered)) (now cases) (now symbols) (roomOf (now masks) (now levels) (now entered)) (now cases) (now symbols) ⌝ }
-    ensures { λ r. ⌜ resultWith (countsIn r) (roomOf (now (masks .exit)) (now (levels .exit)) (now (entered .exit))) (now (cases .exit)) (now (symbols .exit))
+    ensures { λ r. ⌜ resultWith r (roomOf (now (masks .exit)) (now (levels .exit)) (now (entered .exit))) (now (cases .exit)) (now (symbols .exit))
         ≡ machineResult (now (image .entry)) (lentOf (roomOf (now (masks .entry)) (now (levels .entry)) (now (entered .entry))) (now (cases .entry)) (now (symbols .entry))) (termsOf (now (hints .entry)) allowance edition) ⌝ }
 {
     let mut run = begin(head, edition);
@@ -137,21 +151,7 @@ fn drive(
             allowance,
         );
     }
-    run
-}
-
-// The five numbers of a run that has ended.
-fn count_up(run: Run) -> Counts
-    ensures { λ r. ⌜ r ≡ countsIn run ⌝ }
-{
-    let level = run.level;
-    Counts {
-        number: run.answer as u64,
-        steps: run.steps,
-        level,
-        blockers: run.held as u64,
-        accepted: run.accepted,
-    }
+    count_up(run)
 }
 
 // The run on a valid image in rooms that were checked.
@@ -172,7 +172,7 @@ fn go(
         ≡ machineResult (now (image .entry)) (lentOf (roomOf (now (masks .entry)) (now (levels .entry)) (now (entered .entry))) (now (cases .entry)) (now (symbols .entry))) (termsOf (now (hints .entry)) allowance edition) ⌝ }
 {
     clear(masks, levels, entered, cases, symbols);
-    count_up(drive(
+    drive(
         image,
         head,
         masks,
@@ -183,7 +183,7 @@ fn go(
         hints,
         allowance,
         edition,
-    ))
+    )
 }
 
 // A run: refused under the number of the first check that applies, with every table as it was; else the machine's run, in the lent rooms.

@@ -7,6 +7,7 @@ use Rattle.checker.proofs.run.drive.Tie as tie
 use Rattle.checker.proofs.run.drive.Reads as reads
 use Rattle.checker.proofs.run.drive.Lts as lts
 use Rattle.checker.proofs.run.begin.Reads as begin-reads
+use Rattle.checker.proofs.run.count_up.Reads as count-up-reads
 use Rattle.checker.proofs.steps.step.Reads as step-reads
 
 abbrev Inv-loop : tie.InvT-loop
@@ -29,6 +30,9 @@ loop-less c = drive-less (c .before .before .before .before .before .before .bef
 
 loop-again : tie.Need-loop-again Inv-loop μ-loop
 loop-again c = search (drive-goes, needs)
+
+count-up-requires : tie.Need-count-up-requires Inv-loop μ-loop
+count-up-requires c κs = search needs
 
 same-length : tie.Need-same-length Inv-loop μ-loop
 same-length c = search needs
@@ -59,6 +63,7 @@ drive-spec =
     step-requires
     loop-less
     loop-again
+    count-up-requires
     same-length
     same-length-2
     same-length-3
