@@ -16,7 +16,7 @@ use Rattle.machine.specs.Machine.{Blocker, Configuration, Rooms, beginni
 use Rattle.machine.specs.Machine.{Outcome, nonempty, empty, stepsLack, blockersLack, wordLacks, startsFinal}
 use Rattle.machine.specs.Meaning.{Closed, EnteredInOrder}
 use Rattle.machine.specs.Lent.{BlockerRoom, EvenRoom, column, placed, eachTable, withTable}
-use Rattle.machine.specs.Runs.{Lent, zeroed, systemOf, roomsOf, numberOf, casesIn, symbolsIn, tablesAfter, resultOf}
+use Rattle.machine.specs.Runs.{Lent, zeroed, Result, systemOf, roomsOf, refused, numberOf, casesIn, symbolsIn, tablesAfter, resultOf}
 use Rattle.machine.specs.Promises.{heldBy, Alone, WordFound, Rules, Verdict, Agreed}
 use Rattle.machine.proofs.Language.{IsVerdict, Word, accepts, Lawful, Agree, both-nonempty, both-empty, both-at-start}
 use Rattle.machine.proofs.Language.{Decided, decidedNonempty, decidedEmpty, decidedAtStart}
@@ -41,6 +41,19 @@ number-low startsFinal = omega arith
 pub record Even (lent : Lent) : Type 0 where
   pub blockers : EvenRoom (lent .room)
   pub symbols : length (lent .cases) ≡ length (lent .symbols)
+
+-- a result that has a number and four zeros, and the tables that it leaves
+pub is-alone : {tables : Lent} {number : ℕ} {r : Result} → r ≡ refused tables number → Alone number tables r
+unfolding refused
+is-alone e =
+    record {
+      under = ap (λ (x : Result). x .number) e;
+      no-steps = ap (λ (x : Result). x .steps) e;
+      no-level = ap (λ (x : Result). x .level) e;
+      no-blockers = ap (λ (x : Result). x .blockers) e;
+      no-hints = ap (λ (x : Result). x .accepted) e;
+      leaves = ap (λ (x : Result). x .tables) e;
+    }
 
 -- where no blocker is held, nothing is pending and no word was found, every place is 0
 module _ (lent : Lent) (even : Even lent) where
@@ -181,20 +194,12 @@ module _ (image : List ℕ) (lent : Lent) (edition : ℕ) (valid : Valid image) 
       answered h = ap (λ (x : Outcome). numberOf (ends x)) (d .start (h .0) (means [] (h .1) .1))
 
   -- and then nothing was done
-  at-start : Alone 5 (zeroed lent) (resultOf lent (ends startsFinal))
-  unfolding resultOf numberOf beginning casesIn symbolsIn
-  at-start =
-      record {
-        under = refl;
-        no-steps = refl;
-        no-level = refl;
-        no-blockers = refl;
-        no-hints = refl;
-        leaves = tables-zero lent even (ends startsFinal) refl refl refl;
-      }
+  at-start : resultOf lent (ends startsFinal) ≡ refused (zeroed lent) 5
+  unfolding resultOf refused numberOf beginning casesIn symbolsIn
+  at-start = rw (tables-zero lent even (ends startsFinal) refl refl refl)
 
   nothing-done : (o : Outcome) → numberOf (ends o) ≡ 5 → Alone 5 (zeroed lent) (resultOf lent (ends o))
-  nothing-done o e = subst (λ (x : Outcome). Alone 5 (zeroed lent) (resultOf lent (ends x))) (sym (shows-final o e)) at-start
+  nothing-done o e = is-alone (ap (λ (x : Outcome). resultOf lent (ends x)) (shows-final o e) ∙ at-start)
 
   -- every rule
   pub rules : (o : Outcome) → Done (systemOf image) (roomsOf lent) edition o → Rules image lent edition (resultOf lent (ends o))

@@ -27,7 +27,7 @@ use Rattle.machine.proofs.Driving.{works-in, machine-ends, machine-done
 use Rattle.machine.proofs.Driving.{machine-begins-alike}
 use Rattle.machine.proofs.Unpending.{block-leaves}
 use Rattle.machine.proofs.Images.{image-lawful, accepted-by-runs}
-use Rattle.machine.proofs.Judging.{Even, rules, results-agree, decided-verdict, decided-number, decided-in-time}
+use Rattle.machine.proofs.Judging.{Even, is-alone, rules, results-agree, decided-verdict, decided-number, decided-in-time}
 
 -- what a run's checks leave where none applies
 pub record Checked (image : List ℕ) (lent : Lent) : Type 0 where
@@ -57,6 +57,12 @@ rooms-passed true over later e = absurd (omega arith)
 rooms-passed false true later e = absurd (omega arith)
 rooms-passed false false later e = refl
 
+-- editions 1 and 2 are refused alike
+editions-checked : (lent : Lent) (hints : List ℕ) (number : ℕ) → checkTerms lent hints 1 number ≡ checkTerms lent hints 2 number
+unfolding checkTerms unknownEdition neg _or_
+editions-checked lent hints zero = refl
+editions-checked lent hints (suc number) = refl
+
 -- the checks that follow the image's
 module _ (lent : Lent) (hints : List ℕ) (edition : ℕ) where
   -- an image that is refused is refused under its own number
@@ -77,12 +83,6 @@ module _ (lent : Lent) (hints : List ℕ) (edition : ℕ) where
   unfolding checkTerms unknownEdition check neg _or_
   edition-refused first second zero e = rw (ne-eqb _ _ first, ne-eqb _ _ second) (rooms-passed (oddRooms lent) (oversize lent hints) 36 e)
   edition-refused first second (suc number) e = absurd (omega arith)
-
-  -- editions 1 and 2 are refused alike
-  editions-checked : (number : ℕ) → checkTerms lent hints 1 number ≡ checkTerms lent hints 2 number
-  unfolding checkTerms unknownEdition neg _or_
-  editions-checked zero = refl
-  editions-checked (suc number) = refl
 
   image-first : (number : ℕ) → checkTerms lent hints edition number ≡ 0 → number ≡ 0
   unfolding checkTerms
@@ -134,18 +134,6 @@ result-steps : (lent : Lent) (n : Next) → resultOf lent n .steps ≡ comesTo n
 unfolding resultOf
 result-steps lent n = refl
 
-is-refused : {lent : Lent} {number : ℕ} {r : Result} → r ≡ refused lent number → Refused lent number r
-unfolding refused
-is-refused e =
-    record {
-      under = ap (λ (x : Result). x .number) e;
-      no-steps = ap (λ (x : Result). x .steps) e;
-      no-level = ap (λ (x : Result). x .level) e;
-      no-blockers = ap (λ (x : Result). x .blockers) e;
-      no-hints = ap (λ (x : Result). x .accepted) e;
-      leaves = ap (λ (x : Result). x .tables) e;
-    }
-
 module _ (image : List ℕ) (lent : Lent) (terms : Terms) where
   -- a run is refused, or it is the machine's
   refused-run : (number : ℕ) → checkRun image lent terms ≡ number → 20 ≤ number → runOf image lent terms ≡ refused lent number
@@ -162,7 +150,7 @@ module _ (image : List ℕ) (lent : Lent) (terms : Terms) where
     where
       at : (checkRun image lent terms ≡ 0) ⊎ (20 ≤ checkRun image lent terms) → Refused lent (checkRun image lent terms) (runOf image lent terms)
       at (inl e) = absurd (n e)
-      at (inr h) = is-refused (refused-run (checkRun image lent terms) refl h)
+      at (inr h) = is-alone (refused-run (checkRun image lent terms) refl h)
 
   refuses-image : (Valid image → ⊥) → Refused lent (checkImage image) (runOf image lent terms)
   refuses-image n =
@@ -174,7 +162,7 @@ module _ (image : List ℕ) (lent : Lent) (terms : Terms) where
       → Refused lent 36 (runOf image lent terms)
   unfolding checkRun
   refuses-edition first second e =
-      is-refused (refused-run 36 (edition-refused lent (terms .hints) (terms .edition) first second (checkImage image) e) (omega arith))
+      is-alone (refused-run 36 (edition-refused lent (terms .hints) (terms .edition) first second (checkImage image) e) (omega arith))
 
   edition-after : (checkRun image lent (inEdition 1 terms) ≡ 0 → ⊥) → Refused lent (checkRun image lent (inEdition 1 terms)) (runOf image lent terms)
   unfolding checkRun
@@ -249,7 +237,7 @@ module _ (image : List ℕ) (lent : Lent) (terms : Terms) where
     where
       at : (checkRun image lent terms ≡ 0) ⊎ (20 ≤ checkRun image lent terms) → runOf image lent terms .steps ≤ terms .allowance
       at (inl e) = run-allowed e
-      at (inr h) = omega (arith, is-refused (refused-run (checkRun image lent terms) refl h) .no-steps)
+      at (inr h) = omega (arith, is-alone (refused-run (checkRun image lent terms) refl h) .no-steps)
 
   pub run-promises : RunPromises image lent terms (runOf image lent terms)
   run-promises =
@@ -272,7 +260,7 @@ verdict-low (inr e) = omega (arith, e .1)
 
 -- two runs that reach a verdict agree, within one edition
 pub runs-agree : (image other : List ℕ) (lent lent′ : Lent) (terms terms′ : Terms) → HoldOne image other → terms .edition ≡ terms′ .edition
-    → Verdict (terms .edition) (runOf image lent terms .number) → Verdict (terms′ .edition) (runOf other lent′ terms′ .number)
+    → Verdict (terms .edition) (runOf image lent terms .number) → Verdict (terms .edition) (runOf other lent′ terms′ .number)
     → Agreed (runOf image lent terms) (runOf other lent′ terms′)
 runs-agree image other lent lent′ terms terms′ same edition v v′ =
     let none = unchecked image lent terms (verdict-low v) in
@@ -284,15 +272,14 @@ runs-agree image other lent lent′ terms terms′ same edition v v′ =
     (run-done image lent terms none)
     (subst (λ (n : ℕ). Done (systemOf other) (roomsOf lent′) n (end-is other lent′ terms′ .outcome)) (sym edition) (run-done other lent′ terms′ none′))
     (subst (λ (r : Result). Verdict (terms .edition) (r .number)) e v)
-    (subst (λ (n : ℕ). Verdict n (resultOf lent′ (ends (end-is other lent′ terms′ .outcome)) .number)) (sym edition)
-    (subst (λ (r : Result). Verdict (terms′ .edition) (r .number)) e′ v′)))
+    (subst (λ (r : Result). Verdict (terms .edition) (r .number)) e′ v′))
 
 -- where the start is not final the two editions are one
 pub editions-agree : (image : List ℕ) (lent : Lent) (terms : Terms) → (Accepted (automatonOf image) [] → ⊥)
     → runOf image lent (inEdition 1 terms) ≡ runOf image lent (inEdition 2 terms)
 unfolding runOf runWith checkRun endOf
 editions-agree image lent terms not-final =
-    ap (runWith image lent (inEdition 1 terms)) (editions-checked lent (terms .hints) (terms .edition) (checkImage image))
+    ap (runWith image lent (inEdition 1 terms)) (editions-checked lent (terms .hints) (checkImage image))
     ∙ at (checkRun image lent (inEdition 2 terms)) refl
   where
     at : (number : ℕ) → checkRun image lent (inEdition 2 terms) ≡ number

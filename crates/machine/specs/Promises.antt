@@ -183,7 +183,7 @@ pub record Promises : Type 0 where
   pub runs : (image : List ℕ) (lent : Lent) (terms : Terms) → RunPromises image lent terms (runOf image lent terms)
   -- "Whatever hints, rooms and allowances, two runs on one valid automaton that reach a verdict agree", within one edition
   pub runs-agree : (image other : List ℕ) (lent lent′ : Lent) (terms terms′ : Terms) → HoldOne image other → terms .edition ≡ terms′ .edition
-      → Verdict (terms .edition) (runOf image lent terms .number) → Verdict (terms′ .edition) (runOf other lent′ terms′ .number)
+      → Verdict (terms .edition) (runOf image lent terms .number) → Verdict (terms .edition) (runOf other lent′ terms′ .number)
       → Agreed (runOf image lent terms) (runOf other lent′ terms′)
   -- 02, 6: "1 answers as now, 2 answers such a start by 5": on any other start the two editions are one
   pub editions-agree : (image : List ℕ) (lent : Lent) (terms : Terms) → (Accepted (automatonOf image) [] → ⊥)
