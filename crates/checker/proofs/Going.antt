@@ -1,24 +1,21 @@
 -- The loop of a run: the stage shows what the machine has come to by as many calls, in tables that began all 0. Assumes nothing.
 use Prim.Native.Nat.{ℕ, suc, _-_, _≤_, _<_}
 use mathlib.Core.Path.{_≡_, refl, sym, ap, subst, _∙_}
-use mathlib.Core.Bool.{Bool, true, false}
-use mathlib.Core.List.{List, []}
+use mathlib.Core.List.{List, [], _∷_}
 use native.Mathlib.Omega.{arith}
 use borrow.Author.Tests.{ne-eqb}
 use lib.Dec.{eqb}
 use lib.ListN.{length, replicate}
-use Rattle.lists.specs.Tests.{choose, _or_}
-use Rattle.lists.specs.Lists.{any}
-use Rattle.masks.specs.Sets.{subset}
-use Rattle.automata.specs.Image.{Valid, initialOf, finalOf}
+use Rattle.lists.specs.Tests.{choose}
+use Rattle.automata.specs.Image.{Valid}
 use Rattle.automata.specs.declared.image.Head.{Head}
-use Rattle.machine.specs.Machine.{Configuration, Next, goesOn, ends, comesTo, advance, chain, startAnswer, begin, beginning, nonempty, startsFinal}
+use Rattle.machine.specs.Machine.{Configuration, Next, goesOn, ends, advance, chain, start, begin, beginning, nonempty, startsFinal}
 use Rattle.machine.specs.Lent.{BlockerRoom, columnBack}
-use Rattle.machine.specs.Runs.{Lent, Terms, Result, systemOf, roomsOf, givenOf, numberOf, casesIn, symbolsIn, resultOf, endOf}
+use Rattle.machine.specs.Runs.{Lent, zeroed, Terms, Result, systemOf, roomsOf, givenOf, numberOf, casesIn, symbolsIn, tablesAfter, resultOf, endOf}
 use Rattle.machine.specs.Records.{Stage, pendingOf, recordOf, stepOf}
 use Rattle.machine.proofs.Passing.{byStates-sound}
 use Rattle.machine.proofs.Steps.{Advanced, tried, advanced, advanced-counts}
-use Rattle.machine.proofs.Chains.{Working, chain-working, each-same}
+use Rattle.machine.proofs.Chains.{Working, chain-working, each-same, Begun, answered, finalAtOnce, started, begin-begun}
 use Rattle.machine.proofs.Driving.{one-call-more, calls-counted, calls-suffice}
 use Rattle.machine.proofs.Invariant.{chain-length}
 use Rattle.machine.proofs.Images.{image-lawful}
@@ -30,7 +27,7 @@ use Rattle.choices.specs.Found.{ReadAs}
 use Rattle.checker.specs.declared.record.Run.{Run}
 use Rattle.checker.specs.declared.run.Counts.{Counts}
 use Rattle.checker.specs.Stage.{lentOf, recordIn, stage, Ready}
-use Rattle.checker.specs.Whole.{Cleared, Runnable, countsIn, resultWith, startsWith, startRecord, machineResult}
+use Rattle.checker.specs.Whole.{Cleared, Runnable, countsIn, resultWith, machineResult}
 
 -- the steps that may still be made, and one more while the run works
 unfoldable pub remaining : ℕ → ℕ → ℕ → ℕ
@@ -157,28 +154,27 @@ module _ (image : List ℕ) (lent : Lent) (terms : Terms) where
   -- the beginning: all places 0, and the start's record, by whether I is a subset of F
   module _ (even : Even lent) {room′ : BlockerRoom} {cases′ symbols′ : List ℕ}
       (cleared : Cleared (lent .room) (lent .cases) (lent .symbols) room′ cases′ symbols′) where
-    -- a record beside cleared tables shows a start that has no blocker, nothing pending and no word
-    start-shown : {run : Run} (n : Next) → recordIn run ≡ recordOf n → comesTo n .table ≡ [] → casesIn n ≡ [] → symbolsIn n ≡ []
-        → stage room′ cases′ symbols′ run ≡ shown lent n
-    start-shown n is table cases symbols =
-        rw (is, cleared .new-room, cleared .new-cases, cleared .new-symbols, tables-zero lent even n table cases symbols)
+    -- a record beside cleared tables shows a start: it has no blocker, nothing pending and no word
+    start-shown : {run : Run} {n : Next} → Begun (systemOf image) (terms .edition) n → recordIn run ≡ recordOf n → stage room′ cases′ symbols′ run ≡ shown lent n
+    unfolding casesIn symbolsIn columnBack beginning
+    start-shown {n = n} begun is =
+        rw (is, cleared .new-room, cleared .new-cases, cleared .new-symbols) (sym (ap (λ (tables : Lent). record { tables = tables; run = recordOf n }) (at begun)))
+      where
+        at : {n : Next} → Begun (systemOf image) (terms .edition) n → tablesAfter (length (lent .room .masks)) (length (lent .cases)) lent n ≡ zeroed lent
+        at (answered e f) = tables-zero lent even (ends (nonempty [] beginning)) refl refl refl
+        at (finalAtOnce e f) = tables-zero lent even (ends startsFinal) refl refl refl
+        at (started e) = tables-zero lent even (goesOn beginning) refl refl refl
 
-    pub going-starts : (head : Head) → ReadAs image head → {run : Run} → run ≡ startRecord (head .initial) (head .finals) (terms .edition)
+    pub going-starts : (head : Head) → ReadAs image head → {run : Run} → recordIn run ≡ recordOf (start (head .initial) (head .finals ∷ []) (terms .edition))
         → Going (stage room′ cases′ symbols′ run)
-    unfolding startRecord begin startAnswer any _or_ chain recordOf numberOf pendingOf casesIn symbolsIn columnBack beginning choose
-    going-starts head read {run} begins =
+    unfolding chain
+    going-starts head read begins =
         record {
           calls = 0;
           few = omega arith;
-          shows = rw (begins, read .read) (at (subset (initialOf image) (finalOf image)) (eqb (terms .edition) 2));
+          shows = start-shown (begin-begun (systemOf image) (terms .edition))
+              (begins ∙ ap (λ (h : Head). recordOf (start (h .initial) (h .finals ∷ []) (terms .edition))) (read .read));
         }
-      where
-        at : (final second : Bool)
-            → stage room′ cases′ symbols′ (startsWith (choose final (choose second 5 1) 6))
-            ≡ shown lent (choose (final or false) (ends (choose second startsFinal (nonempty [] beginning))) (goesOn beginning))
-        at true true = start-shown (ends startsFinal) refl refl refl refl
-        at true false = start-shown (ends (nonempty [] beginning)) refl refl refl refl
-        at false second = start-shown (goesOn beginning) refl refl refl refl
 
 -- the loop: the stage goes on from what was lent, and each table keeps its length
 pub record Driven (image : List ℕ) (head : Head) (lent : Lent) (terms : Terms) (room : BlockerRoom) (cases symbols : List ℕ) (run : Run) : Type 0 where
@@ -192,7 +188,7 @@ runnable-even : {image : List ℕ} {head : Head} (lent : Lent) → Runnable imag
 runnable-even lent runnable = record { blockers = runnable .rooms .blocker-room; symbols = runnable .rooms .word-room }
 
 pub drive-starts : {image : List ℕ} {head : Head} {room : BlockerRoom} {cases symbols : List ℕ} (terms : Terms) {run : Run}
-    → Runnable image head room cases symbols → Cleared room cases symbols room cases symbols → run ≡ startRecord (head .initial) (head .finals) (terms .edition)
+    → Runnable image head room cases symbols → Cleared room cases symbols room cases symbols → recordIn run ≡ recordOf (start (head .initial) (head .finals ∷ []) (terms .edition))
     → Driven image head (lentOf room cases symbols) terms room cases symbols run
 drive-starts {image} {head} {room} {cases} {symbols} terms runnable cleared begins =
     record {

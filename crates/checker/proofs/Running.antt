@@ -2,33 +2,40 @@
 use Prim.Native.Nat.{ℕ, _-_, _≤_}
 use mathlib.Core.Path.{_≡_, ap, _∙_}
 use mathlib.Core.Bool.{Bool, true, false}
-use mathlib.Core.List.{List, [], _++_, append-nil}
+use mathlib.Core.List.{List, [], _∷_, _++_, append-nil}
 use native.Mathlib.Nat.{sub-zero}
 use native.Mathlib.Omega.{arith}
 use borrow.Author.Tests.{ne-eqb}
 use lib.ListN.{length, take, replicate, length-replicate, drop-of-length-le}
-use Rattle.lists.specs.Tests.{choose}
+use Rattle.lists.specs.Tests.{choose, _or_}
+use Rattle.lists.specs.Lists.{any}
 use Rattle.masks.specs.Sets.{subset}
-use Rattle.machine.specs.Machine.{Blocker}
+use Rattle.machine.specs.Machine.{Blocker, beginning, startAnswer, start}
 use Rattle.machine.specs.Lent.{BlockerRoom, columnBack, placed}
+use Rattle.machine.specs.Runs.{numberOf}
+use Rattle.machine.specs.Records.{RunRecord, pendingOf, recordOf}
 use Rattle.machine.proofs.LentTables.{tables-even, placed-none}
 use Rattle.blockers.specs.Room.{over}
 use Rattle.blockers.specs.Room as Room
 use Rattle.pending.specs.Room.{Placed as PlacedWord}
-use Rattle.checker.specs.Whole.{Checked, Cleared, startsWith, startRecord}
+use Rattle.checker.specs.Whole.{Checked, Cleared}
+
+-- the machine's record at a start, with this answer
+abbrev startsWith : ℕ → RunRecord
+startsWith answer = record { answer = answer; steps = 0; level = 0; isOpen = false; held = 0; pending = 0; blocks = 0; accepted = 0 }
 
 -- the start's record, by the test and the edition
 module _ (initial finals edition : ℕ) (b : Bool) (e : b ≡ subset initial finals) where
-  pub start-final : b ≡ true → (edition ≡ 2 → ⊥) → startsWith 1 ≡ startRecord initial finals edition
-  unfolding startRecord choose
+  pub start-final : b ≡ true → (edition ≡ 2 → ⊥) → startsWith 1 ≡ recordOf (start initial (finals ∷ []) edition)
+  unfolding start startAnswer any _or_ choose recordOf numberOf pendingOf beginning
   start-final t first = rw (← e, t, ne-eqb _ _ first)
 
-  pub start-final-second : b ≡ true → edition ≡ 2 → startsWith 5 ≡ startRecord initial finals edition
-  unfolding startRecord choose
+  pub start-final-second : b ≡ true → edition ≡ 2 → startsWith 5 ≡ recordOf (start initial (finals ∷ []) edition)
+  unfolding start startAnswer any _or_ choose recordOf numberOf pendingOf beginning
   start-final-second t second = rw (← e, t, second)
 
-  pub start-works : b ≡ false → startsWith 6 ≡ startRecord initial finals edition
-  unfolding startRecord choose
+  pub start-works : b ≡ false → startsWith 6 ≡ recordOf (start initial (finals ∷ []) edition)
+  unfolding start any _or_ choose recordOf numberOf pendingOf beginning
   start-works t = rw (← e, t)
 
 -- a table of which every place was cleared

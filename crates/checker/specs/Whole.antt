@@ -1,12 +1,8 @@
 -- A whole run: what it begins with, and its five numbers as 01's result. Assumes nothing: these are definitions.
 use Prim.Native.Nat.{ℕ, _≤_}
 use mathlib.Core.Path.{_≡_}
-use mathlib.Core.Bool.{false}
 use mathlib.Core.List.{List}
-use lib.Dec.{eqb}
 use lib.ListN.{length}
-use Rattle.lists.specs.Tests.{choose}
-use Rattle.masks.specs.Sets.{subset}
 use Rattle.automata.specs.declared.image.Head.{Head}
 use Rattle.machine.specs.Lent.{BlockerRoom, EvenRoom}
 use Rattle.machine.specs.Runs.{Lent, zeroed, Terms, Result, roomsOf, resultOf, endOf}
@@ -47,23 +43,6 @@ pub record Cleared (room : BlockerRoom) (cases symbols : List ℕ) (room′ : Bl
   pub new-room : room′ ≡ zeroed (lentOf room cases symbols) .room
   pub new-cases : cases′ ≡ zeroed (lentOf room cases symbols) .cases
   pub new-symbols : symbols′ ≡ zeroed (lentOf room cases symbols) .symbols
-
--- a record at the start, with this answer: "The level N begins at 0, with no blockers and nothing pending."
-abbrev pub startsWith : ℕ → Run
-startsWith answer = record {
-  answer = answer;
-  steps = 0;
-  level = record { 0 = 0 };
-  opened = false;
-  held = 0;
-  pending = 0;
-  blocks = 0;
-  accepted = 0;
-}
-
--- "Start: if I is a subset of F, answer 1 with the empty word and 0 steps", in edition 2 5; "Otherwise steps follow"
-unfoldable pub startRecord : ℕ → ℕ → ℕ → Run
-startRecord initial finals edition = startsWith (choose (subset initial finals) (choose (eqb edition 2) 5 1) 6)
 
 -- what the machine's run needs: a valid image's head, and rooms that have passed their checks
 pub record Runnable (image : List ℕ) (head : Head) (room : BlockerRoom) (cases symbols : List ℕ) : Type 0 where

@@ -5,10 +5,13 @@ use automata::image::Head;
 use automata::image::Image;
 use blockers::Level;
 ghost use mathlib.Core.Path.{_≡_};
+ghost use mathlib.Core.List.{[], _∷_};
+ghost use Rattle.machine.specs.Machine.{start};
 ghost use Rattle.machine.specs.Lent.{roomOf};
 ghost use Rattle.machine.specs.Runs.{checkTerms, runOf};
-ghost use Rattle.checker.specs.Stage.{lentOf, termsOf};
-ghost use Rattle.checker.specs.Whole.{Checked, Cleared, Runnable, startRecord, countsIn, resultWith, machineResult};
+ghost use Rattle.machine.specs.Records.{recordOf};
+ghost use Rattle.checker.specs.Stage.{lentOf, termsOf, recordIn};
+ghost use Rattle.checker.specs.Whole.{Checked, Cleared, Runnable, countsIn, resultWith, machineResult};
 
 // The five numbers of a run.
 pub struct Counts {
@@ -34,7 +37,7 @@ fn refuse(number: u64) -> Counts
 
 // The start: where I is a subset of F, 1 with the empty word, in edition 2 5; else a run that works.
 fn begin(head: Head, edition: u64) -> Run
-    ensures { λ r. ⌜ r ≡ startRecord (head .initial) (head .finals) edition ⌝ }
+    ensures { λ r. ⌜ recordIn r ≡ recordOf (start (head .initial) (head .finals ∷ []) edition) ⌝ }
 {
     let mut answer: u8 = 6;
     if masks::subset(head.initial, head.finals) {

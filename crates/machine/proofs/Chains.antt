@@ -16,7 +16,7 @@ use Rattle.lists.proofs.Lists.{in-none, in-cases, in-left, in-right}
 use Rattle.masks.specs.Sets.{subset}
 use Rattle.machine.specs.System.{System}
 use Rattle.machine.specs.Machine.{Configuration, Given, Rooms, beginning, Step, step}
-use Rattle.machine.specs.Machine.{Next, goesOn, ends, comesTo, judge, advance, chain, startAnswer, begin, Outcome, nonempty, startsFinal}
+use Rattle.machine.specs.Machine.{Next, goesOn, ends, comesTo, judge, advance, chain, startAnswer, start, begin, Outcome, nonempty, startsFinal}
 use Rattle.machine.specs.Meaning.{Lacks}
 use Rattle.machine.proofs.Language.{accepts, Lawful, Sound, Decided, decidedNonempty, decidedAtStart, IsVerdict, AnswersStart}
 use Rattle.machine.proofs.Steps.{Judged, roomToOpen, extended, roomToBlock, closed, found, emptied, noRoomToOpen, noRoomToBlock}
@@ -70,13 +70,13 @@ abbrev Within : ℕ → Next → Type 0
 Within most n = comesTo n .steps ≤ most
 
 -- "Start: if I is a subset of F, answer 1 with the empty word and 0 steps. Otherwise steps follow." 02, 6: "2 answers such a start by 5"
-data Begun (S : System) (edition : ℕ) : Next → Type 0 where
+pub data Begun (S : System) (edition : ℕ) : Next → Type 0 where
   answered : any (subset (S .initial)) (S .finals) ≡ true → (edition ≡ 2 → ⊥) → Begun S edition (ends (nonempty [] beginning))
   finalAtOnce : any (subset (S .initial)) (S .finals) ≡ true → edition ≡ 2 → Begun S edition (ends startsFinal)
   started : any (subset (S .initial)) (S .finals) ≡ false → Begun S edition (goesOn beginning)
 
-begin-begun : (S : System) (edition : ℕ) → Begun S edition (begin S edition)
-unfolding begin startAnswer choose
+pub begin-begun : (S : System) (edition : ℕ) → Begun S edition (begin S edition)
+unfolding start startAnswer choose
 begin-begun S edition = at (any (subset (S .initial)) (S .finals)) refl (eqb edition 2) refl
   where
     at : (b : Bool) → any (subset (S .initial)) (S .finals) ≡ b → (second : Bool) → eqb edition 2 ≡ second
@@ -87,7 +87,7 @@ begin-begun S edition = at (any (subset (S .initial)) (S .finals)) refl (eqb edi
 
 -- a start that is not final is the same in each edition
 pub begin-alike : (S : System) → (T (accepts S []) → ⊥) → (edition other : ℕ) → begin S edition ≡ begin S other
-unfolding begin choose
+unfolding start choose
 begin-alike S not-final edition other = rw (sym (start-accepts S) ∙ is-false _ not-final)
 
 module _ (S : System) (rooms : Rooms) where

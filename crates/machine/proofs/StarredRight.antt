@@ -10,12 +10,12 @@ use Rattle.automata.specs.WordTest.{oneIf, accepts, known, testWord, wordTest}
 use Rattle.machine.specs.Machine.{beginning, covers, blocked, finalPending, openStep, qualifies, wordOf, extendStep, passes}
 use Rattle.machine.specs.Machine.{withState, withStates, byStates, hintAt, chosenFrom, chosen, leaves, staying, pendingAfter, blockStep}
 use Rattle.machine.specs.Machine.{workOn, workStep, rises, risen, riseAlong, riseLevels, noneAt, frame, closeWith, closeStep}
-use Rattle.machine.specs.Machine.{settled, step, stepOn, judge, advance, chain, startAnswer, begin, machine}
+use Rattle.machine.specs.Machine.{settled, step, stepOn, judge, advance, chain, startAnswer, start, machine}
 use Rattle.machine.specs.Lent.{column, columnBack, placed, withTable}
 use Rattle.machine.specs.Runs.{refused, numberOf, casesIn, symbolsIn, tablesAfter, resultOf, oddRooms, oversize, unknownEdition, checkTerms}
 use Rattle.machine.specs.Runs.{checkRun, endOf, runWith, runOf}
 use Rattle.machine.specs.Starred.{starred, Right, AllRight}
 
 pub starred-right : AllRight starred
-unfolding starred Right AllRight runOf runWith checkRun checkTerms oddRooms oversize unknownEdition checkImage check outside pairsHold pairHolds spanStart rowsHold rowHolds little8 little4 little2 endOf machine begin startAnswer chain advance judge beginning step stepOn workStep workOn openStep closeStep closeWith extendStep blockStep chosen chosenFrom hintAt byStates withStates withState passes blocked covers finalPending pendingAfter qualifies settled wordOf leaves staying rises risen riseAlong riseLevels noneAt frame rowsOf rowsFrom backward withRows withRow resultOf numberOf casesIn symbolsIn tablesAfter withTable refused placed columnBack column wordTest testWord known accepts takenBack oneIf any all keep firstFrom eachFrom subset union single member within _and_ _or_ neg choose
+unfolding starred Right AllRight runOf runWith checkRun checkTerms oddRooms oversize unknownEdition checkImage check outside pairsHold pairHolds spanStart rowsHold rowHolds little8 little4 little2 endOf machine start startAnswer chain advance judge beginning step stepOn workStep workOn openStep closeStep closeWith extendStep blockStep chosen chosenFrom hintAt byStates withStates withState passes blocked covers finalPending pendingAfter qualifies settled wordOf leaves staying rises risen riseAlong riseLevels noneAt frame rowsOf rowsFrom backward withRows withRow resultOf numberOf casesIn symbolsIn tablesAfter withTable refused placed columnBack column wordTest testWord known accepts takenBack oneIf any all keep firstFrom eachFrom subset union single member within _and_ _or_ neg choose
 starred-right = (refl, (refl, (refl, (refl, (refl, (refl, (refl, (refl, (refl, (refl, (refl, (refl, (refl, (refl, (refl, tt)))))))))))))))

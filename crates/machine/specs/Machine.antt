@@ -294,8 +294,11 @@ unfoldable pub startAnswer : ℕ → Outcome
 startAnswer edition = choose (eqb edition 2) startsFinal (nonempty [] beginning)
 
 -- "Start: if I is a subset of F, answer .. Otherwise steps follow": one of the final cases contains I
-unfoldable pub begin : System → ℕ → Next
-begin S edition = choose (any (subset (S .initial)) (S .finals)) (ends (startAnswer edition)) (goesOn beginning)
+unfoldable pub start : ℕ → List ℕ → ℕ → Next
+start initial finals edition = choose (any (subset initial) finals) (ends (startAnswer edition)) (goesOn beginning)
+
+abbrev pub begin : System → ℕ → Next
+begin S edition = start (S .initial) (S .finals) edition
 
 -- a run: begin, then calls that are all given the same: as many as its allowance has steps, and one that finds it used up
 unfoldable pub machine : System → Rooms → ℕ → Given → Next
