@@ -11,7 +11,8 @@
    - Tables must not overlap: what a function may write (head, room, length,
      masks, levels, entered, cases, symbols, counts, found; afa_why writes found
      alone) shares no byte with anything else that it is lent in the same call.
-   afa_print_run takes some 520 KB of stack, the others little. */
+   afa_print_run takes some 520 KB of stack, afa_run some 40 KB, the others
+   little. */
 #ifndef AFA_H
 #define AFA_H
 
@@ -50,13 +51,16 @@ uint64_t afa_print_run(const uint8_t *image, size_t image_len,
    and the word. The tables of a room have one length. 0 is empty, and masks
    begin with the frame; 1 is nonempty, and symbols begin with a shortest word,
    whose length is the level; 2, 3 and 4 are a run that stopped for want of
-   steps, blocker room or word room; 20 to 27, 30, 31 and 36 are refusals, and
-   leave every table as it was. edition is 1 or 2, any other is refused under
-   36. They differ only where the initial case is final already, so that the
-   empty word is accepted: 1 answers 1 with that word; 2 answers 5, with 0 in
-   counts and in every place of the tables. entered has for each blocker held
-   the count of steps including the block that made it, and 0 after them. counts
-   has steps, level, blockers held and hints accepted, all 0 where refused. */
+   steps, blocker room or word room; 20 to 27, 30, 31, 36 and 37 are refusals,
+   and leave every table as it was. edition is 1 or 2, any other is refused
+   under 36. They differ only where the initial case is final already, so that
+   the empty word is accepted: 1 answers 1 with that word; 2 answers 5, with 0
+   in counts and in every place of the tables. way is 0 or 1, any other is
+   refused under 37. It says how blockers are grown where no hint is taken: 0
+   state by state, 1 through a hitting set. Steps and blockers differ, verdicts
+   and the lengths of words do not. entered has for each blocker held the count
+   of steps including the block that made it, and 0 after them. counts has
+   steps, level, blockers held and hints accepted, all 0 where refused. */
 uint64_t afa_run(const uint8_t *image, size_t image_len,
                  uint64_t *masks, size_t masks_len,
                  uint32_t *levels, size_t levels_len,
@@ -64,7 +68,8 @@ uint64_t afa_run(const uint8_t *image, size_t image_len,
                  uint64_t *cases, size_t cases_len,
                  uint8_t *symbols, size_t symbols_len,
                  const uint64_t *hints, size_t hints_len,
-                 uint64_t allowance, uint64_t edition, uint64_t counts[4]);
+                 uint64_t allowance, uint64_t edition, uint64_t way,
+                 uint64_t counts[4]);
 
 /* Tells why a case is blocked at a level. 1 if it is blocked by a blocker, and
    found has the place, from 0, of the first in table order that covers it (of

@@ -11,6 +11,7 @@ pub mod prints;
 pub mod runs;
 pub mod stops;
 pub mod walks;
+pub mod ways;
 
 /// A number of states or symbols.
 fn size(random: &mut Random) -> usize {

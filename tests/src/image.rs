@@ -59,6 +59,12 @@ impl Model {
         self.rows.iter().map(Vec::len).sum()
     }
 
+    /// n, k and m, as text.
+    pub fn sizes(&self) -> String {
+        let (n, k, m) = (self.states, self.symbols(), self.row_count());
+        format!("n {n}, k {k}, m {m}")
+    }
+
     /// Whether I is a subset of F, so that the empty word is accepted.
     pub fn starts_final(&self) -> bool {
         self.initial & !self.final_set == 0

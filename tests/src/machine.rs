@@ -8,10 +8,12 @@ use crate::tables::{Answer, Rooms, Terms, EDITIONS};
 use automaton::{contains, Automaton};
 use blockers::Blockers;
 use entered::EnteredTable;
+use hitting::Forbidden;
 
 mod automaton;
 mod blockers;
 mod entered;
+mod hitting;
 pub mod print;
 
 /// Of a room and of the hint table.
@@ -19,12 +21,21 @@ pub const MOST_PLACES: usize = 65_536;
 
 /// What an observed run tells of its steps.
 #[derive(Clone, Copy, Debug, PartialEq, Eq)]
-pub enum Event {
+pub enum Event<'a> {
     Opened {
         pending: bool,
     },
     Extended {
         symbol: u8,
+    },
+    /// No hint was taken: a blocker is grown of the pending case, for which there may be no room.
+    Grown {
+        pending: u64,
+        level: u32,
+        /// Those that are held, before any leave.
+        masks: &'a [u64],
+        levels: &'a [u32],
+        blocker: u64,
     },
     Blocked {
         pending: u64,
@@ -72,12 +83,22 @@ pub fn observed_run<Entered: EnteredTable>(
     if !EDITIONS.contains(&terms.edition) {
         return Answer::refused(36);
     }
+    let mut forbidden;
+    let growth = match terms.way {
+        0 => Growth::StateByState,
+        1 => {
+            forbidden = Forbidden::new();
+            Growth::HittingSet(&mut forbidden)
+        }
+        _ => return Answer::refused(37),
+    };
     let mut machine = Machine {
         automaton: Automaton::new(image, &head),
         blockers: Blockers::new(rooms.masks, rooms.levels, rooms.entered),
         cases: rooms.cases,
         symbols: rooms.symbols,
         terms,
+        growth,
         level: 0,
         open: false,
         pending: 0,
@@ -118,6 +139,13 @@ pub fn accepts(image: &[u8], word: &[u8]) -> u64 {
     contains(set, automaton.initial).into()
 }
 
+/// "The caller chooses, 0 for 01's way, 1 for this".
+enum Growth<'a> {
+    StateByState,
+    /// With the room that it takes, which is cleared once for a run.
+    HittingSet(&'a mut Forbidden),
+}
+
 /// Cases are pending at consecutive levels from N down, so the first place of word room is that of
 /// level N and the last one in use that of the lowest.
 struct Machine<'a, Entered, Observe> {
@@ -127,6 +155,7 @@ struct Machine<'a, Entered, Observe> {
     /// The symbol that led to each pending case, 0 for the first.
     symbols: &'a mut [u8],
     terms: Terms<&'a [u64]>,
+    growth: Growth<'a>,
     /// N.
     level: u32,
     open: bool,
@@ -211,11 +240,10 @@ impl<Entered: EnteredTable, Observe: FnMut(Event)> Machine<'_, Entered, Observe>
         None
     }
 
-    /// "If t blocks came before and hint t exists and passes, it is taken. Otherwise Y starts as X;
-    /// states 0 to n-1 not in X are tried in order, each kept if the set with it still passes.
-    /// Blockers of level <= i that are subsets of Y leave and the rest close up; Y enters at the end
-    /// with level i; X is no longer pending. Room is judged after the leaving." It has entered at
-    /// "the count of steps including the block that made it".
+    /// "If t blocks came before and hint t exists and passes, it is taken." Otherwise a blocker is grown:
+    /// "hints go first in both" ways. "Blockers of level <= i that are subsets of Y leave and the rest
+    /// close up; Y enters at the end with level i; X is no longer pending. Room is judged after the
+    /// leaving." It has entered at "the count of steps including the block that made it".
     fn block(&mut self, case: u64, level: u32) -> Option<u64> {
         let hint = self.terms.hints.get(self.blocks).copied();
         let hint = hint.filter(|&hint| self.passes(hint, case, level));
@@ -244,7 +272,27 @@ impl<Entered: EnteredTable, Observe: FnMut(Event)> Machine<'_, Entered, Observe>
         None
     }
 
-    fn grow(&self, case: u64, level: u32) -> u64 {
+    fn grow(&mut self, case: u64, level: u32) -> u64 {
+        let blocker = match &mut self.growth {
+            Growth::StateByState => self.grown_state_by_state(case, level),
+            Growth::HittingSet(forbidden) => {
+                forbidden.grow(&self.automaton, &self.blockers, case, level)
+            }
+        };
+        let (masks, levels) = self.blockers.held();
+        (self.observe)(Event::Grown {
+            pending: case,
+            level,
+            masks,
+            levels,
+            blocker,
+        });
+        blocker
+    }
+
+    /// "Otherwise Y starts as X; states 0 to n-1 not in X are tried in order, each kept if the set with
+    /// it still passes."
+    fn grown_state_by_state(&self, case: u64, level: u32) -> u64 {
         let mut blocker = case;
         for state in 0..self.automaton.states() {
             let grown = blocker | 1 << state;

@@ -1,6 +1,7 @@
 //! What a run is lent, and the five numbers that it returns.
 
 use crate::random::Random;
+use std::fmt;
 
 /// Blocker room and word room, lent. For a machine that has no table of when blockers entered, `()`
 /// stands in its place.
@@ -109,22 +110,31 @@ pub struct Blocker {
 /// The editions that there are.
 pub const EDITIONS: [u64; 2] = [1, 2];
 
-/// The terms of a run: hints, which it only reads, how many steps it may make, and by which edition a
-/// final start is answered. The hints are owned, or a slice where they are lent.
+/// The ways to grow a blocker that there are: state by state, and through a hitting set.
+pub const WAYS: [u64; 2] = [0, 1];
+
+/// Each edition with each way.
+pub const CHOICES: [[u64; 2]; 4] = [[1, 0], [2, 0], [1, 1], [2, 1]];
+
+/// The terms of a run: hints, which it only reads, how many steps it may make, by which edition a final
+/// start is answered, and by which way blockers are grown. The hints are owned, or a slice where they are
+/// lent.
 #[derive(Clone, Copy, Debug)]
 pub struct Terms<Hints = Vec<u64>> {
     pub hints: Hints,
     pub allowance: u64,
     pub edition: u64,
+    pub way: u64,
 }
 
 impl<Hints: Default> Terms<Hints> {
-    /// Those of the program, but for the allowance: no hints, and edition 1.
+    /// Those of the program, but for the allowance: no hints, edition 1 and way 0.
     pub fn plain(allowance: u64) -> Self {
         Terms {
             hints: Hints::default(),
             allowance,
             edition: 1,
+            way: 0,
         }
     }
 }
@@ -135,6 +145,7 @@ impl Terms {
             hints: &self.hints,
             allowance: self.allowance,
             edition: self.edition,
+            way: self.way,
         }
     }
 }
@@ -175,5 +186,25 @@ impl Answer {
     /// Whether the number is a verdict; 5 is one of edition 2.
     pub fn is_verdict(&self) -> bool {
         matches!(self.number, 0 | 1 | 5)
+    }
+
+    /// Verdict and word length, if there is a verdict.
+    pub fn verdict(&self) -> Option<(u64, Option<u64>)> {
+        let length = (self.number == 1).then_some(self.level);
+        self.is_verdict().then_some((self.number, length))
+    }
+}
+
+/// The five numbers, as the program prints them.
+impl fmt::Display for Answer {
+    fn fmt(&self, out: &mut fmt::Formatter<'_>) -> fmt::Result {
+        let Answer {
+            number,
+            steps,
+            level,
+            blockers,
+            hints_accepted,
+        } = self;
+        write!(out, "{number} {steps} {level} {blockers} {hints_accepted}")
     }
 }

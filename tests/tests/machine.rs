@@ -4,35 +4,42 @@
 use afa_tests::generate::aim;
 use afa_tests::generate::hints::hints;
 use afa_tests::generate::runs::{
-    affordable_steps, lent, run_model, run_model_of, unknown_edition, Earlier,
+    affordable_steps, lent, run_model, run_model_of, unknown_edition, unknown_way, Earlier,
 };
 use afa_tests::image::{model_a, model_b, model_c, model_d, rings};
 use afa_tests::machine::{run, run_without_entered};
 use afa_tests::random::Random;
 use afa_tests::search::assert_right;
-use afa_tests::tables::{Answer, Blocker, Tables, Terms, EDITIONS};
+use afa_tests::tables::{Answer, Blocker, Tables, Terms, EDITIONS, WAYS};
 
 #[test]
 fn known_numbers() {
-    for (model, hints, numbers) in [
-        (model_a(), &[][..], [0, 3, 1, 1, 0]),
-        (model_b(), &[], [1, 2, 1, 0, 0]),
-        (model_c(), &[], [1, 6, 2, 1, 0]),
-        (model_c(), &[6], [1, 6, 2, 1, 0]),
-        (model_c(), &[4], [1, 6, 2, 1, 1]),
-        (rings(&[2, 3, 5]), &[], [1, 219, 29, 61, 0]),
-        (rings(&[2, 3, 5, 7]), &[], [1, 1901, 209, 490, 0]),
+    for (way, model, hints, numbers) in [
+        (0, model_a(), &[][..], [0, 3, 1, 1, 0]),
+        (0, model_b(), &[], [1, 2, 1, 0, 0]),
+        (0, model_c(), &[], [1, 6, 2, 1, 0]),
+        (0, model_c(), &[6], [1, 6, 2, 1, 0]),
+        (0, model_c(), &[4], [1, 6, 2, 1, 1]),
+        (0, rings(&[2, 3, 5]), &[], [1, 219, 29, 61, 0]),
+        (0, rings(&[2, 3, 5, 7]), &[], [1, 1901, 209, 490, 0]),
+        (1, model_a(), &[], [0, 3, 1, 1, 0]),
+        (1, model_b(), &[], [1, 2, 1, 0, 0]),
+        (1, model_c(), &[], [1, 6, 2, 1, 0]),
+        (1, model_c(), &[6], [1, 6, 2, 1, 0]),
+        (1, model_c(), &[2], [1, 6, 2, 1, 1]),
+        (1, rings(&[2, 3, 5]), &[], [1, 168, 29, 34, 0]),
     ] {
         for edition in EDITIONS {
             let mut tables = Tables::cleared(1024, 1024);
             let terms = Terms {
                 hints,
                 edition,
+                way,
                 ..Terms::plain(1 << 22)
             };
             let answer = run(&model.image(), tables.lend(), terms);
             let expected = Answer::of_numbers(numbers);
-            assert_eq!(answer, expected, "{model}, edition {edition}");
+            assert_eq!(answer, expected, "{model}, edition {edition}, way {way}");
         }
     }
 }
@@ -40,31 +47,47 @@ fn known_numbers() {
 /// D's start is final.
 #[test]
 fn known_numbers_of_d() {
-    for (edition, number) in [(1, 1), (2, 5), (0, 36), (3, 36)] {
+    for (edition, way, number) in [
+        (1, 0, 1),
+        (1, 1, 1),
+        (2, 0, 5),
+        (2, 1, 5),
+        (0, 0, 36),
+        (3, 1, 36),
+        (3, 2, 36),
+        (1, 2, 37),
+        (2, 3, 37),
+    ] {
         for allowance in [0, 1, 100] {
             let terms = Terms {
                 edition,
+                way,
                 ..Terms::plain(allowance)
             };
             let mut tables = Tables::cleared(8, 8);
             let answer = run(&model_d().image(), tables.lend(), terms);
             let expected = Answer::of_numbers([number, 0, 0, 0, 0]);
-            assert_eq!(answer, expected, "edition {edition}");
+            assert_eq!(answer, expected, "edition {edition}, way {way}");
         }
     }
 }
 
 #[test]
 fn known_blockers() {
-    for (model, hints, blocker) in [
-        (model_a(), &[][..], (4, 2, 2)),
-        (model_c(), &[], (2, 1, 2)),
-        (model_c(), &[6], (2, 1, 2)),
-        (model_c(), &[4], (4, 1, 2)),
+    for (way, model, hints, blocker) in [
+        (0, model_a(), &[][..], (4, 2, 2)),
+        (0, model_c(), &[], (2, 1, 2)),
+        (0, model_c(), &[6], (2, 1, 2)),
+        (0, model_c(), &[4], (4, 1, 2)),
+        (1, model_a(), &[], (4, 2, 2)),
+        (1, model_c(), &[], (4, 1, 2)),
+        (1, model_c(), &[6], (4, 1, 2)),
+        (1, model_c(), &[2], (2, 1, 2)),
     ] {
         let mut tables = Tables::filled(&mut Random::seeded(12), 8, 8);
         let terms = Terms {
             hints,
+            way,
             ..Terms::plain(100)
         };
         let answer = run(&model.image(), tables.lend(), terms);
@@ -89,7 +112,7 @@ fn without_entered() {
         let model = run_model(&mut random);
         let image = model.image();
         let affordable = affordable_steps(&model, 50_000);
-        let earlier = Earlier::new(&image, Terms::plain(affordable));
+        let earlier = Earlier::of_either_way(&mut random, &image, affordable);
         let lent = lent(&mut random, &model, &earlier, affordable);
         let mut with = lent.before.clone();
         let answer = run(&image, with.lend(), lent.terms.lend());
@@ -110,7 +133,7 @@ fn without_entered() {
 }
 
 /// The edition changes the number of a final start and nothing else, and one that there is not is
-/// refused.
+/// refused, as is a way that there is not.
 #[test]
 fn editions() {
     let mut random = Random::seeded(14);
@@ -122,18 +145,19 @@ fn editions() {
         }
         let image = model.image();
         let affordable = affordable_steps(&model, 50_000);
-        let earlier = Earlier::new(&image, Terms::plain(affordable));
+        let earlier = Earlier::of_either_way(&mut random, &image, affordable);
         let lent = lent(&mut random, &model, &earlier, affordable);
-        let in_edition = |edition| {
+        let run_by = |edition, way| {
             let mut tables = lent.before.clone();
             let terms = Terms {
                 edition,
+                way,
                 ..lent.terms.lend()
             };
             let answer = run(&image, tables.lend(), terms);
             (answer, tables)
         };
-        let [one, two] = EDITIONS.map(in_edition);
+        let [one, two] = EDITIONS.map(|edition| run_by(edition, lent.terms.way));
         if model.starts_final() {
             let [masks, _, _, cases, _] = lent.before.lengths();
             let cleared = Tables::cleared(masks, cases);
@@ -146,8 +170,15 @@ fn editions() {
             assert_eq!(one, two, "{model}");
             by_number[one.0.number as usize] += 1;
         }
-        let refused = (Answer::refused(36), lent.before.clone());
-        assert_eq!(in_edition(unknown_edition(&mut random)), refused, "{model}");
+        let (edition, way) = (unknown_edition(&mut random), unknown_way(&mut random));
+        for (edition, way, number) in [
+            (edition, lent.terms.way, 36),
+            (edition, way, 36),
+            (lent.terms.edition, way, 37),
+        ] {
+            let refused = (Answer::refused(number), lent.before.clone());
+            assert_eq!(run_by(edition, way), refused, "{model}");
+        }
     }
     println!("6000 models in both editions: {final_starts} final starts, others {by_number:?}");
     assert!(final_starts > 1_000 && by_number.iter().all(|&count| count > 100));
@@ -162,12 +193,13 @@ fn verdicts() {
         let (states, symbols) = (random.within(1..=10), random.within(1..=4));
         let model = run_model_of(&mut random, states, symbols);
         let image = model.image();
-        let earlier = Earlier::new(&image, Terms::plain(u64::MAX));
+        let earlier = Earlier::of_either_way(&mut random, &image, u64::MAX);
         let places = 1 << states;
         let mut tables = Tables::filled(&mut random, places, places);
         let terms = Terms {
             hints: hints(&mut random, &model, &earlier.blocks),
             edition: random.pick(&EDITIONS),
+            way: random.pick(&WAYS),
             ..Terms::plain(4 << (2 * states))
         };
         let answer = run(&image, tables.lend(), terms.lend());

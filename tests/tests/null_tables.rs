@@ -8,7 +8,7 @@ use afa_tests::afa::walk::interface::afa_walk;
 use afa_tests::afa::why::interface::afa_why;
 use afa_tests::image::{model_a, model_b, model_c, model_d};
 use afa_tests::machine;
-use afa_tests::tables::{Answer, Tables, Terms, EDITIONS};
+use afa_tests::tables::{Answer, Tables, Terms, CHOICES};
 use std::ptr::{null, null_mut};
 
 #[test]
@@ -86,6 +86,7 @@ fn expect(image: &[u8], lengths: [usize; 5], terms: Terms<&[u64]>, numbers: [u64
             terms.hints.len(),
             terms.allowance,
             terms.edition,
+            terms.way,
             counts.as_mut_ptr(),
         )
     };
@@ -100,11 +101,12 @@ fn run() {
     let models = [model_a(), model_b(), model_c(), model_d()];
     let [a, b, c, d] = models.map(|model| model.image());
     let nothing = [0; 5];
-    for edition in EDITIONS {
+    for [edition, way] in CHOICES {
         let terms = |hints: &'static [u64], allowance| Terms {
             hints,
+            allowance,
             edition,
-            ..Terms::plain(allowance)
+            way,
         };
         expect(&[], nothing, terms(&[], 100), [20, 0, 0, 0, 0]);
         expect(&[], [4; 5], terms(&[4], 100), [20, 0, 0, 0, 0]);
@@ -136,16 +138,19 @@ fn run() {
             expect(&c, lengths, terms(&[], 100), [30, 0, 0, 0, 0]);
         }
     }
-    let unknown = Terms {
-        edition: 3,
-        ..Terms::plain(100)
-    };
-    for image in [&a, &d] {
-        expect(image, nothing, unknown, [36, 0, 0, 0, 0]);
-        expect(image, [4; 5], unknown, [36, 0, 0, 0, 0]);
+    for (edition, way, number) in [(3, 0, 36), (3, 2, 36), (1, 2, 37), (2, 2, 37)] {
+        let unknown = Terms {
+            edition,
+            way,
+            ..Terms::plain(100)
+        };
+        for image in [&a, &d] {
+            expect(image, nothing, unknown, [number, 0, 0, 0, 0]);
+            expect(image, [4; 5], unknown, [number, 0, 0, 0, 0]);
+        }
+        expect(&[], nothing, unknown, [20, 0, 0, 0, 0]);
+        expect(&a, [0, 4, 4, 4, 4], unknown, [30, 0, 0, 0, 0]);
     }
-    expect(&[], nothing, unknown, [20, 0, 0, 0, 0]);
-    expect(&a, [0, 4, 4, 4, 4], unknown, [30, 0, 0, 0, 0]);
 }
 
 /// No image, the empty word, and no room, in which no print has a place.

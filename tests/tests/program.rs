@@ -20,7 +20,7 @@ use std::process::{Command, Stdio};
 use std::thread::{self, sleep};
 use std::time::Duration;
 
-/// What the program lends its run, which has no hints and edition 1.
+/// What the program lends its run, which has no hints, edition 1 and way 0.
 const PLACES: usize = 256;
 const ALLOWANCE: u64 = 100_000;
 

@@ -9,7 +9,7 @@ use afa_tests::generate::{self, aim};
 use afa_tests::guarded::{Untouchable, EDGES};
 use afa_tests::image::{model_a, model_b, model_c, model_d, rings, Model};
 use afa_tests::random::Random;
-use afa_tests::tables::{Answer, Lent, Tables, Terms, EDITIONS};
+use afa_tests::tables::{Answer, Lent, Tables, Terms, EDITIONS, WAYS};
 
 /// Numbers beside the known editions, and some that are one when cut down to 8, 16, 32 or 63 bits.
 const UNKNOWN: [u64; 18] = [
@@ -84,6 +84,7 @@ fn model_d_on_all_terms() {
                     before: Tables::filled(&mut random, blocker_room, word_room),
                     terms: Terms {
                         hints,
+                        way: random.pick(&WAYS),
                         ..Terms::plain(allowance)
                     },
                 };
@@ -111,15 +112,18 @@ fn other_known_models() {
         (rings(&[2, 3, 5]), &[]),
     ] {
         for (blocker_room, word_room) in [(0, 64), (64, 0), (1, 1), (4, 64), (64, 4), (64, 64)] {
-            for allowance in (0..10).chain([100, 218, 219, 220, u64::MAX]) {
-                let lent = Lent {
-                    before: Tables::filled(&mut random, blocker_room, word_room),
-                    terms: Terms {
-                        hints: hints.to_vec(),
-                        ..Terms::plain(allowance)
-                    },
-                };
-                expect_alike(&mut comparison, &model, &lent);
+            for allowance in (0..10).chain([100, 167, 168, 169, 218, 219, 220, u64::MAX]) {
+                for way in WAYS {
+                    let lent = Lent {
+                        before: Tables::filled(&mut random, blocker_room, word_room),
+                        terms: Terms {
+                            hints: hints.to_vec(),
+                            way,
+                            ..Terms::plain(allowance)
+                        },
+                    };
+                    expect_alike(&mut comparison, &model, &lent);
+                }
             }
         }
     }
@@ -142,7 +146,7 @@ fn starts_that_are_final_or_not() {
         };
         aim(&mut random, &mut model, &[]);
         let affordable = affordable_steps(&model, 20_000);
-        let earlier = Earlier::new(&model.image(), Terms::plain(affordable));
+        let earlier = Earlier::of_either_way(&mut random, &model.image(), affordable);
         let mut lent = lent(&mut random, &model, &earlier, affordable);
         if number % 400 == 0 {
             let places = random.pick(&[(65_536, 3), (3, 65_536)]);
@@ -181,7 +185,7 @@ fn starts_that_are_not_final() {
         }
         models += 1;
         let affordable = affordable_steps(&model, 50_000);
-        let earlier = Earlier::new(&image, Terms::plain(affordable));
+        let earlier = Earlier::of_either_way(&mut random, &image, affordable);
         let lent = lent(&mut random, &model, &earlier, affordable);
         let (answer, after) = expect_alike(&mut comparison, &model, &lent);
         assert_ne!(answer.number, 5, "{model}");
@@ -217,8 +221,9 @@ fn unknown_editions() {
                         before: Tables::filled(&mut random, places, places),
                         terms: Terms {
                             hints: vec![4; places],
+                            allowance,
                             edition,
-                            ..Terms::plain(allowance)
+                            way: random.pick(&WAYS),
                         },
                     };
                     expect_refused(&mut comparison, &model, &lent);
@@ -231,7 +236,7 @@ fn unknown_editions() {
         if number % 2 == 0 {
             aim(&mut random, &mut model, &[]);
         }
-        let earlier = Earlier::new(&model.image(), Terms::plain(8));
+        let earlier = Earlier::of_either_way(&mut random, &model.image(), 8);
         let mut lent = lent(&mut random, &model, &earlier, 8);
         if number % 400 == 0 {
             lent.before = Tables::filled(&mut random, 65_536, 65_536);
@@ -253,10 +258,13 @@ fn unknown_editions_touch_nothing() {
                     let mut counts = [7; 4];
                     let image = model.image();
                     let lengths = [places; 6];
-                    let answered =
-                        run_untouchable(&image, lengths, edition, &memory, edge, &mut counts);
-                    let lent = format!("{model}, edition {edition}, {places} places");
-                    assert_eq!((answered, counts), (36, [0; 4]), "{lent}");
+                    for way in WAYS {
+                        let choice = [edition, way];
+                        let answered =
+                            run_untouchable(&image, lengths, choice, &memory, edge, &mut counts);
+                        let lent = format!("{model}, edition {edition}, {places} places");
+                        assert_eq!((answered, counts), (36, [0; 4]), "{lent}");
+                    }
                 }
             }
         }

@@ -29,7 +29,7 @@ fn in_table_order() {
         let model = run_model(&mut random);
         let image = model.image();
         let affordable = affordable_steps(&model, 100_000);
-        let earlier = Earlier::new(&image, Terms::plain(affordable));
+        let earlier = Earlier::of_either_way(&mut random, &image, affordable);
         if earlier.answer.steps < 6 {
             continue;
         }

@@ -1,11 +1,11 @@
-//! Runs whose five numbers are known beforehand, with every place that they leave, in either edition:
-//! models A to D, the rings, and the largest sizes and their neighbours.
+//! Runs whose five numbers are known beforehand, with every place that they leave, in either edition and
+//! by either way: models A to D, the rings, and the largest sizes and their neighbours.
 
 use afa_tests::compare::run::Comparison;
 use afa_tests::image::{model_a, model_b, model_c, model_d, rings, Model};
 use afa_tests::random::Random;
 use afa_tests::search::{is_closed, shortest_word};
-use afa_tests::tables::{Answer, Lent, Tables, Terms, EDITIONS};
+use afa_tests::tables::{Answer, Lent, Tables, Terms, EDITIONS, WAYS};
 
 /// What a run is lent, which is as in the program where a line does not say otherwise.
 #[derive(Clone, Copy)]
@@ -14,6 +14,7 @@ struct Loan<'a> {
     word_room: usize,
     hints: &'a [u64],
     allowance: u64,
+    way: u64,
 }
 
 const PROGRAM: Loan = Loan {
@@ -21,7 +22,11 @@ const PROGRAM: Loan = Loan {
     word_room: 256,
     hints: &[],
     allowance: 100_000,
+    way: 0,
 };
+
+/// The same but for the way.
+const BY_HITTING_SETS: Loan = Loan { way: 1, ..PROGRAM };
 
 impl Loan<'_> {
     fn lent(self, edition: u64) -> Lent {
@@ -29,8 +34,9 @@ impl Loan<'_> {
             before: Tables::filled(&mut Random::seeded(1), self.blocker_room, self.word_room),
             terms: Terms {
                 hints: self.hints.to_vec(),
+                allowance: self.allowance,
                 edition,
-                ..Terms::plain(self.allowance)
+                way: self.way,
             },
         }
     }
@@ -51,7 +57,7 @@ fn expect(model: &Model, loan: Loan, numbers: [u64; 5], entries: &[Entry], word:
     for edition in EDITIONS {
         let lent = loan.lent(edition);
         let (answer, after) = Comparison::default().run(&model.image(), &lent, model);
-        let shown = format!("{model}, edition {edition}");
+        let shown = format!("{model}, edition {edition}, way {}", loan.way);
         assert_eq!(answer, Answer::of_numbers(numbers), "{shown}");
         assert_eq!(after, expected, "{shown}");
     }
@@ -68,17 +74,20 @@ fn expect_refused(image: &[u8], loan: Loan, number: u64) {
     }
 }
 
+/// The two states outside F must be picked, each for its own: by both ways F itself is the blocker.
 #[test]
 fn a() {
-    let (a, program) = (model_a(), PROGRAM);
-    expect(&a, program, [0, 3, 1, 1, 0], &[(4, 2, 2)], &[]);
-    let one_place = Loan {
-        blocker_room: 1,
-        word_room: 1,
-        allowance: 3,
-        ..program
-    };
-    expect(&a, one_place, [0, 3, 1, 1, 0], &[(4, 2, 2)], &[]);
+    let a = model_a();
+    for program in [PROGRAM, BY_HITTING_SETS] {
+        expect(&a, program, [0, 3, 1, 1, 0], &[(4, 2, 2)], &[]);
+        let one_place = Loan {
+            blocker_room: 1,
+            word_room: 1,
+            allowance: 3,
+            ..program
+        };
+        expect(&a, one_place, [0, 3, 1, 1, 0], &[(4, 2, 2)], &[]);
+    }
     assert!(is_closed(&a, &[4]));
 }
 
@@ -95,19 +104,23 @@ fn a_stops() {
         (256, 0, 1, [4, 0, 0, 0, 0], &[]),
         (256, 0, 0, [2, 0, 0, 0, 0], &[]),
     ] {
-        let loan = Loan {
-            blocker_room,
-            word_room,
-            allowance,
-            ..PROGRAM
-        };
-        expect(&model_a(), loan, numbers, blockers, &[]);
+        for way in WAYS {
+            let loan = Loan {
+                blocker_room,
+                word_room,
+                allowance,
+                way,
+                ..PROGRAM
+            };
+            expect(&model_a(), loan, numbers, blockers, &[]);
+        }
     }
 }
 
 #[test]
 fn b() {
     expect(&model_b(), PROGRAM, [1, 2, 1, 0, 0], &[], &[0]);
+    expect(&model_b(), BY_HITTING_SETS, [1, 2, 1, 0, 0], &[], &[0]);
     assert_eq!(shortest_word(&model_b()), Some(1));
 }
 
@@ -127,6 +140,21 @@ fn c() {
     assert_eq!(shortest_word(&c), Some(2));
 }
 
+/// Through a hitting set of {0} and {1, 2}, in which state 1 is picked of the second: so state 2 stays.
+#[test]
+fn c_by_hitting_sets() {
+    let (c, program) = (model_c(), BY_HITTING_SETS);
+    let (grown, hinted) = ([(4, 1, 2)], [(2, 1, 2)]);
+    expect(&c, program, [1, 6, 2, 1, 0], &grown, &[0, 1]);
+    let with_hints = |hints| Loan { hints, ..program };
+    expect(&c, with_hints(&[6]), [1, 6, 2, 1, 0], &grown, &[0, 1]);
+    expect(&c, with_hints(&[2]), [1, 6, 2, 1, 1], &hinted, &[0, 1]);
+    expect(&c, with_hints(&[4]), [1, 6, 2, 1, 1], &grown, &[0, 1]);
+    expect(&c, with_hints(&[0]), [1, 6, 2, 1, 1], &[(0, 1, 2)], &[0, 1]);
+    expect(&c, with_hints(&[6, 2]), [1, 6, 2, 1, 0], &grown, &[0, 1]);
+    expect(&c, with_hints(&[10]), [1, 6, 2, 1, 0], &grown, &[0, 1]);
+}
+
 /// Its start is final, which the editions answer by numbers of their own.
 #[test]
 fn d() {
@@ -141,7 +169,7 @@ fn d() {
         allowance: 0,
         ..program
     };
-    for loan in [nothing, program, no_steps] {
+    for loan in [nothing, program, no_steps, BY_HITTING_SETS] {
         for (edition, number) in [(1, 1), (2, 5)] {
             let (answer, after) = Comparison::default().run(&d.image(), &loan.lent(edition), &d);
             assert_eq!(answer, Answer::of_numbers([number, 0, 0, 0, 0]));
@@ -162,6 +190,7 @@ fn n_64_and_65() {
     let mut model = Model::new(64, 1 << 63, 1, &[&[]]);
     let frame = [((1 << 63) - 1, 2, 2)];
     expect(&model, PROGRAM, [0, 3, 1, 1, 0], &frame, &[]);
+    expect(&model, BY_HITTING_SETS, [0, 3, 1, 1, 0], &frame, &[]);
     model.states = 65;
     expect_refused(&model.image(), PROGRAM, 21);
 }
@@ -175,6 +204,7 @@ fn m_4096_and_4097() {
     assert_eq!(model.image().len(), 37_396);
     let frame = [(u64::MAX - 2, 2, 2)];
     expect(&model, PROGRAM, [0, 3, 1, 1, 0], &frame, &[]);
+    expect(&model, BY_HITTING_SETS, [0, 3, 1, 1, 0], &frame, &[]);
     let mut longer = Model::plain(64, 64, 4097);
     longer.initial = 2;
     expect_refused(&longer.image(), PROGRAM, 23);
@@ -236,6 +266,13 @@ const RINGS_2_3_5: &str = "\
     146@16:170 261@17:171 522@18:172 49@19:173 70@20:174 137@21:175 274@22:176 517@23:177 \
     42@24:178 81@25:179 134@26:180 265@27:181 530@28:182";
 
+/// The same through hitting sets.
+const RINGS_2_3_5_BY_HITTING_SETS: &str = "\
+    1017@1:6 1014@2:7 1001@3:11 1010@4:12 989@1:33 958@2:34 889@3:35 758@4:36 973@3:46 954@4:47 \
+    965@5:61 938@6:62 881@7:63 742@8:64 489@9:65 978@10:66 901@11:76 810@12:77 625@13:78 230@14:79 \
+    457@15:80 914@16:81 773@17:99 554@18:100 113@19:101 198@20:102 393@21:103 786@22:104 517@23:122 \
+    42@24:123 81@25:124 134@26:125 265@27:126 530@28:127";
+
 #[test]
 fn rings_2_3_5() {
     let entry = |entry: &str| {
@@ -244,18 +281,30 @@ fn rings_2_3_5() {
         let [mask, entered] = [mask, entered].map(|number| number.parse().unwrap());
         (mask, level.parse().unwrap(), entered)
     };
-    let entries: Vec<Entry> = RINGS_2_3_5.split_whitespace().map(entry).collect();
     let model = rings(&[2, 3, 5]);
-    expect(&model, PROGRAM, [1, 219, 29, 61, 0], &entries, &[0; 29]);
+    for (loan, numbers, entries) in [
+        (PROGRAM, [1, 219, 29, 61, 0], RINGS_2_3_5),
+        (
+            BY_HITTING_SETS,
+            [1, 168, 29, 34, 0],
+            RINGS_2_3_5_BY_HITTING_SETS,
+        ),
+    ] {
+        let entries: Vec<Entry> = entries.split_whitespace().map(entry).collect();
+        expect(&model, loan, numbers, &entries, &[0; 29]);
+    }
 }
 
 /// With 1,024 places and 4^11 steps. The last has levels that one byte does not hold.
 #[test]
 fn coprime_rings() {
-    for (sizes, numbers) in [
-        (&[2, 3, 5][..], [1, 219, 29, 61, 0]),
-        (&[2, 3, 5, 7], [1, 1901, 209, 490, 0]),
-        (&[2, 3, 5, 11], [1, 3155, 329, 781, 0]),
+    for (sizes, way, numbers) in [
+        (&[2, 3, 5][..], 0, [1, 219, 29, 61, 0]),
+        (&[2, 3, 5, 7], 0, [1, 1901, 209, 490, 0]),
+        (&[2, 3, 5, 11], 0, [1, 3155, 329, 781, 0]),
+        (&[2, 3, 5], 1, [1, 168, 29, 34, 0]),
+        (&[2, 3, 5, 7], 1, [1, 1473, 209, 280, 0]),
+        (&[2, 3, 5, 11], 1, [1, 2069, 329, 400, 0]),
     ] {
         let model = rings(sizes);
         for edition in EDITIONS {
@@ -263,6 +312,7 @@ fn coprime_rings() {
                 before: Tables::filled(&mut Random::seeded(3), 1024, 1024),
                 terms: Terms {
                     edition,
+                    way,
                     ..Terms::plain(1 << 22)
                 },
             };

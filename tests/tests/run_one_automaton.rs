@@ -1,30 +1,25 @@
 //! Runs on images that hold one automaton: lent the same, they do the same; lent other hints and rooms,
-//! those of one edition agree on the verdict and on the word's length whenever both have a verdict.
+//! and by other ways, those of one edition agree on the verdict and on the word's length whenever both
+//! have a verdict.
 
 use afa_tests::compare::run::Comparison;
 use afa_tests::generate::runs::{affordable_steps, lent, run_model, Earlier};
 use afa_tests::image::Model;
 use afa_tests::random::Random;
 use afa_tests::rearrange::{repeated, shuffled, without_repeats};
-use afa_tests::tables::{Answer, Terms, EDITIONS};
+use afa_tests::tables::EDITIONS;
 
 const MODELS: usize = 1_500;
-
-/// Verdict and word length, if there is a verdict.
-fn verdict(answer: &Answer) -> Option<(u64, Option<u64>)> {
-    let length = (answer.number == 1).then_some(answer.level);
-    answer.is_verdict().then_some((answer.number, length))
-}
 
 #[test]
 fn order_and_repeats_do_not_matter() {
     let mut random = Random::seeded(51);
     let mut comparison = Comparison::default();
-    let (mut models, mut agreed, mut differing) = (0, [0_usize; 6], 0);
+    let (mut models, mut agreed, mut differing, mut mixed) = (0, [0_usize; 6], 0, 0);
     while models < MODELS {
         let model = run_model(&mut random);
         let affordable = affordable_steps(&model, 200_000);
-        let earlier = Earlier::new(&model.image(), Terms::plain(affordable));
+        let earlier = Earlier::of_either_way(&mut random, &model.image(), affordable);
         if earlier.answer.steps < 6 && !model.starts_final() {
             continue;
         }
@@ -46,11 +41,12 @@ fn order_and_repeats_do_not_matter() {
                     "{model}\nas {other}\n{:?} and {answer:?}",
                     expected.0
                 );
-                for (another, _) in &answers {
-                    if let (Some(one), Some(two)) = (verdict(&answer), verdict(another)) {
+                for (other_lent, (another, _)) in loans.iter().zip(&answers) {
+                    if let (Some(one), Some(two)) = (answer.verdict(), another.verdict()) {
                         assert_eq!(one, two, "{model}\nas {other}");
                         agreed[one.0 as usize] += 1;
                         differing += usize::from(answer != *another);
+                        mixed += usize::from(lent.terms.way != other_lent.terms.way);
                     }
                 }
             }
@@ -58,11 +54,11 @@ fn order_and_repeats_do_not_matter() {
     }
     println!(
         "{MODELS} models in 3 other images each: {agreed:?} pairs of runs with a verdict, by number, \
-         {differing} of them with other steps or blockers: {}",
+         {differing} of them with other steps or blockers, {mixed} by other ways: {}",
         comparison.seen
     );
     assert!(agreed[0] > 1_000 && agreed[1] > 1_000 && differing > 1_000);
-    assert!(agreed[5] > 300);
+    assert!(agreed[5] > 300 && mixed > 1_000);
 }
 
 fn other_images(random: &mut Random, model: &Model) -> [Model; 3] {

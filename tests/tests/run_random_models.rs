@@ -1,11 +1,11 @@
 //! Runs of random models of 1 to 64 states, with good and bad hints, in rooms that are too short or
-//! just long enough, with allowances that end them anywhere, and in either edition.
+//! just long enough, with allowances that end them anywhere, in either edition and by either way.
 
 use afa_tests::compare::run::Comparison;
 use afa_tests::generate::runs::{affordable_steps, lent, run_model, Earlier};
 use afa_tests::random::Random;
 use afa_tests::search::proves_itself;
-use afa_tests::tables::{Tables, Terms};
+use afa_tests::tables::Tables;
 
 const MODELS: usize = 52_000;
 const RUNS: usize = 3;
@@ -23,7 +23,7 @@ fn random_models() {
             // Now and then a run may take long.
             let row_tests = if number % 50 == 0 { 3_000_000 } else { 100_000 };
             let affordable = affordable_steps(&model, row_tests);
-            let earlier = Earlier::new(&image, Terms::plain(affordable));
+            let earlier = Earlier::of_either_way(&mut random, &image, affordable);
             // Most models answer at once, and few of those are enough.
             if earlier.answer.steps > 3 || random.chance(20) {
                 break (model, image, affordable, earlier);
@@ -75,4 +75,5 @@ fn random_models() {
     assert!(seen.by_hint > 20_000 && seen.room_by_leaving > 500);
     assert!(seen.left_before > 1_000 && seen.left_behind > 1_000);
     assert!(seen.opened_blocked > 100);
+    assert!(seen.grown.iter().all(|&count| count > 100_000));
 }

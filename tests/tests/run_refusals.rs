@@ -4,11 +4,11 @@ use afa_tests::afa::run::run_untouchable;
 use afa_tests::compare::run::Comparison;
 use afa_tests::damage::damage;
 use afa_tests::generate;
-use afa_tests::generate::runs::{run_model, unknown_edition};
+use afa_tests::generate::runs::{run_model, unknown_edition, unknown_way};
 use afa_tests::guarded::{Untouchable, EDGES};
 use afa_tests::image::{broken_model_c, model_c, Model};
 use afa_tests::random::Random;
-use afa_tests::tables::{Answer, Lent, Tables, Terms, EDITIONS};
+use afa_tests::tables::{Answer, Lent, Tables, Terms, CHOICES, EDITIONS, WAYS};
 
 /// Lengths of masks, levels, entered, cases, symbols and hints, and the number that they give on a valid
 /// image.
@@ -63,25 +63,31 @@ const LENGTHS: [([usize; 6], Option<u64>); 43] = [
     ([4, 4, 4, 4, 65_540, 0], Some(30)),
 ];
 
-fn lent(random: &mut Random, lengths: [usize; 6], edition: u64) -> Lent {
+fn lent(random: &mut Random, lengths: [usize; 6], [edition, way]: [u64; 2]) -> Lent {
     let [masks, levels, entered, cases, symbols, hints] = lengths;
     Lent {
         before: Tables::filled_unevenly(random, [masks, levels, entered, cases, symbols]),
         terms: Terms {
             hints: (0..hints).map(|_| random.number()).collect(),
+            allowance: random.pick(&[0, 1, 100_000, u64::MAX]),
             edition,
-            ..Terms::plain(random.pick(&[0, 1, 100_000, u64::MAX]))
+            way,
         },
     }
 }
 
-/// The editions that there are, and one that there is not with the number that it gives.
-fn editions(random: &mut Random) -> [(u64, Option<u64>); 3] {
-    let [one, two] = EDITIONS;
+/// Each edition with each way that there is, and such as there are not with the number that they give.
+fn choices(random: &mut Random) -> [([u64; 2], Option<u64>); 7] {
+    let (edition, way) = (random.pick(&EDITIONS), random.pick(&WAYS));
+    let [plain, edition_2, way_1, both] = CHOICES.map(|choice| (choice, None));
     [
-        (one, None),
-        (two, None),
-        (unknown_edition(random), Some(36)),
+        plain,
+        edition_2,
+        way_1,
+        both,
+        ([unknown_edition(random), way], Some(36)),
+        ([unknown_edition(random), unknown_way(random)], Some(36)),
+        ([edition, unknown_way(random)], Some(37)),
     ]
 }
 
@@ -97,8 +103,8 @@ fn lengths() {
     let mut comparison = Comparison::default();
     let image = model_c().image();
     for (lengths, number) in LENGTHS {
-        for (edition, unknown) in editions(&mut random) {
-            let lent = lent(&mut random, lengths, edition);
+        for (choice, unknown) in choices(&mut random) {
+            let lent = lent(&mut random, lengths, choice);
             match number.or(unknown) {
                 Some(number) => expect_refused(&mut comparison, &image, &lent, number),
                 None => {
@@ -127,10 +133,10 @@ fn checks_come_first() {
         ([0, 0, 0, 0, 0, 0], None),
         ([4, 4, 4, 4, 4, 4], None),
     ] {
-        for (edition, unknown) in editions(&mut random) {
+        for (choice, unknown) in choices(&mut random) {
             for allowance in [0, 1] {
                 if let Some(number) = number.or(unknown) {
-                    let mut lent = lent(&mut random, lengths, edition);
+                    let mut lent = lent(&mut random, lengths, choice);
                     lent.terms.allowance = allowance;
                     expect_refused(&mut comparison, &accepting.image(), &lent, number);
                 }
@@ -139,13 +145,13 @@ fn checks_come_first() {
     }
 }
 
-/// Each check of an image broken or not, in all ways, with rooms and editions that are refused and those
-/// that are not.
+/// Each check of an image broken or not, in all ways, with rooms, editions and ways of growing that are
+/// refused and those that are not.
 #[test]
 fn order_of_checks() {
     let mut random = Random::seeded(63);
     let mut comparison = Comparison::default();
-    let mut beside_unknown = [0_usize; 40];
+    let mut beside_unknown = [[0_usize; 40]; 2];
     for broken in 0..1 << 8 {
         let is_broken = |number: u64| broken >> (number - 20) & 1 == 1;
         let mask_at = random.pick(&[4, 12]);
@@ -158,25 +164,32 @@ fn order_of_checks() {
         for (lengths, number) in LENGTHS {
             // Long tables take long, and with a broken image a few of them do.
             let long = lengths.iter().any(|&length| length > 1_000);
-            if long && first.is_some() && !random.chance(5) {
-                continue;
-            }
-            let editions = editions(&mut random);
-            let (edition, unknown) = random.pick(&editions);
-            if let Some(number) = first.or(number).or(unknown) {
-                let lent = lent(&mut random, lengths, edition);
+            for (choice, unknown) in choices(&mut random) {
+                let Some(number) = first.or(number).or(unknown) else {
+                    continue;
+                };
+                if long && first.is_some() && !random.chance(1) {
+                    continue;
+                }
+                let lent = lent(&mut random, lengths, choice);
                 expect_refused(&mut comparison, &image, &lent, number);
-                beside_unknown[number as usize] += usize::from(unknown.is_some());
+                let [edition, way] = choice;
+                let unknown = [!EDITIONS.contains(&edition), !WAYS.contains(&way)];
+                for (beside, unknown) in beside_unknown.iter_mut().zip(unknown) {
+                    beside[number as usize] += usize::from(unknown);
+                }
             }
         }
     }
     let seen = comparison.seen;
     println!("order of checks, by number: {:?}", seen.by_number);
-    assert!((20..28).all(|number| seen.times(number) > 10));
-    assert!(seen.times(30) > 10 && seen.times(31) > 5);
-    println!("beside an unknown edition: {:?}", &beside_unknown[20..]);
-    assert!(beside_unknown[20..28].iter().all(|&count| count > 5));
-    assert!(beside_unknown[30] > 5);
+    assert!((20..28).all(|number| seen.times(number) > 100));
+    assert!(seen.times(30) > 100 && seen.times(31) > 40);
+    for (name, beside) in ["edition", "way"].iter().zip(&beside_unknown) {
+        println!("beside an unknown {name}: {:?}", &beside[20..]);
+        assert!(beside[20..28].iter().all(|&count| count > 40));
+        assert!(beside[30] > 40 && beside[31] > 10);
+    }
 }
 
 #[test]
@@ -194,9 +207,9 @@ fn damaged_images() {
         let [blocker_room, word_room, hints] = [6, 6, 12].map(|bound| random.below(bound));
         let [masks, levels, entered] = [blocker_room; 3];
         let lengths = [masks, levels, entered, word_room, word_room, hints];
-        let editions = editions(&mut random);
-        let (edition, _) = random.pick(&editions);
-        let mut lent = lent(&mut random, lengths, edition);
+        let choices = choices(&mut random);
+        let (choice, _) = random.pick(&choices);
+        let mut lent = lent(&mut random, lengths, choice);
         lent.terms.allowance = lent.terms.allowance.min(20);
         match random.below(20) {
             0 => lent.before.masks.push(7),
@@ -215,10 +228,10 @@ fn damaged_images() {
     let seen = comparison.seen;
     println!("30000 damaged images, by number: {:?}", seen.by_number);
     assert!((20..28).all(|number| seen.times(number) > 300));
-    assert!(seen.times(30) > 300 && seen.times(36) > 300);
+    assert!([30, 36, 37].iter().all(|&number| seen.times(number) > 300));
 }
 
-/// Lengths that would fit if they were cut down to 32 bits, in every edition.
+/// Lengths that would fit if they were cut down to 32 bits, in every edition and by every way.
 #[test]
 fn lengths_that_fit_when_cut() {
     const LONG: usize = (1 << 32) + 4;
@@ -237,12 +250,11 @@ fn lengths_that_fit_when_cut() {
         ([4, 4, 4, LONG, 4, 4], 30),
         ([4, 4, 4, 4, LONG, 4], 30),
     ] {
-        for (edition, _) in editions(&mut random) {
+        for (choice, _) in choices(&mut random) {
             for edge in EDGES {
                 let mut counts = [7; 4];
-                let answered =
-                    run_untouchable(&image, lengths, edition, &memory, edge, &mut counts);
-                let lent = format!("{lengths:?}, edition {edition}");
+                let answered = run_untouchable(&image, lengths, choice, &memory, edge, &mut counts);
+                let lent = format!("{lengths:?}, edition and way {choice:?}");
                 assert_eq!((answered, counts), (number, [0; 4]), "{lent}");
             }
         }

@@ -6,7 +6,7 @@ use afa_tests::generate::hints::hints;
 use afa_tests::generate::runs::{affordable_steps, run_model, Earlier};
 use afa_tests::image::{model_a, model_b, model_c, rings, Model};
 use afa_tests::random::Random;
-use afa_tests::tables::{Answer, Blocker, Lent, Tables, Terms, EDITIONS};
+use afa_tests::tables::{Answer, Blocker, Lent, Tables, Terms, CHOICES, EDITIONS, WAYS};
 
 const MODELS: usize = 400;
 
@@ -100,14 +100,15 @@ fn known_models() {
     let mut random = Random::seeded(31);
     let (mut comparison, mut seen) = (Comparison::default(), Steps::default());
     for (model, steps) in [
-        (model_a(), 3),
-        (model_b(), 2),
-        (model_c(), 6),
-        (rings(&[2, 3, 5]), 219),
+        (model_a(), [3, 3]),
+        (model_b(), [2, 2]),
+        (model_c(), [6, 6]),
+        (rings(&[2, 3, 5]), [219, 168]),
     ] {
-        for edition in EDITIONS {
+        for [edition, way] in CHOICES {
             let terms = Terms {
                 edition,
+                way,
                 ..Terms::plain(u64::MAX)
             };
             let answer = every_allowance(
@@ -118,7 +119,7 @@ fn known_models() {
                 (64, 64),
                 &terms,
             );
-            assert_eq!(answer.steps, steps, "{model}");
+            assert_eq!(answer.steps, steps[way as usize], "{model}, way {way}");
         }
     }
     println!("known models with every allowance: {seen:?}");
@@ -134,7 +135,7 @@ fn random_models() {
     while models < MODELS {
         let model = run_model(&mut random);
         let affordable = affordable_steps(&model, 100_000).min(400);
-        let earlier = Earlier::new(&model.image(), Terms::plain(affordable));
+        let earlier = Earlier::of_either_way(&mut random, &model.image(), affordable);
         if earlier.answer.steps < 16 {
             continue;
         }
@@ -142,6 +143,7 @@ fn random_models() {
         let terms = Terms {
             hints: hints(&mut random, &model, &earlier.blocks),
             edition: random.pick(&EDITIONS),
+            way: random.pick(&WAYS),
             ..Terms::plain(affordable)
         };
         let (held, level) = (earlier.most_held, earlier.answer.level as usize);

@@ -484,7 +484,7 @@ fn blockers_of_random_models() {
     while models < 250 {
         let model = run_model(&mut random);
         let affordable = affordable_steps(&model, 100_000);
-        let earlier = Earlier::new(&model.image(), Terms::plain(affordable));
+        let earlier = Earlier::of_either_way(&mut random, &model.image(), affordable);
         if earlier.answer.steps < 12 {
             continue;
         }

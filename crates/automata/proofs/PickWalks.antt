@@ -14,12 +14,12 @@ use Rattle.lists.specs.Lists.{Each, firstOf}
 use Rattle.lists.proofs.Tests.{holds, fails, is-true, is-false, and-left, and-right, and-both, choose-true, choose-false}
 use Rattle.masks.specs.Sets.{Member, subset, union, single, absent}
 use Rattle.masks.proofs.Laws.{members-subset, subset-antisymmetric, empty-members, union-members, single-members, absent-means}
-use Rattle.automata.specs.Bytes.{byteAt, little8}
-use Rattle.automata.specs.Image.{Row, Valid, statesOf, symbolsOf, offsetOf, sizeOf, rowAt, rowsOf}
-use Rattle.automata.specs.Walk.{rowsBetween, Span, AtRow, pickRow}
+use Rattle.automata.specs.Image.{Row, statesOf, rowAt}
+use Rattle.automata.specs.declared.rows.Row as Read
+use Rattle.automata.specs.Walk.{rowOf, rowsBetween, Span, AtRow, pickRow}
 use Rattle.automata.specs.Picks.{fits, picks, reached}
 use Rattle.automata.specs.declared.picks.Picked.{Picked}
-use Rattle.automata.proofs.RowWalks.{first-row, one-further, rows-ahead, none-ahead, span-rows}
+use Rattle.automata.proofs.RowWalks.{first-row, one-further, rows-ahead, none-ahead}
 use Rattle.automata.proofs.PickedRuns.{fits-means, picked-row, same-row, PicksTo, picks-same, reached-members}
 
 -- what all rows give
@@ -197,28 +197,28 @@ module _ (set X : ℕ) where
           inr (record { from = r .from; yet = absent-means X 0 (r .from) .1 (r .inside, empty-members (r .from)); picks-to = r .picks })
 
 -- one row, by the tests of the code: whether its state has yet to pick, and whether its case lies inside the set
-module _ (image : List ℕ) (at set X : ℕ) (so-far : Picked) (case : ℕ) (is-case : case ≡ little8 image (at + 1)) where
-  module _ (yet : Bool) (is-yet : yet ≡ absent X (so-far .states) (byteAt image at)) where
+module _ (image : List ℕ) (at set X : ℕ) (so-far : Picked) (row : Read.Row) (is : rowOf row ≡ rowAt image at) where
+  module _ (yet : Bool) (is-yet : yet ≡ absent X (so-far .states) (row .state .0)) where
     pub row-late : not yet ≡ true → so-far ≡ pickRow set X so-far (rowAt image at)
     unfolding taking
-    row-late t = sym (take-no set X so-far (rowAt image at) (is-false _ (λ u. fails (sym is-yet ∙ not-true yet t) (and-left _ _ u))))
+    row-late t =
+        sym (take-no set X so-far (rowOf row) (is-false _ (λ u. fails (sym is-yet ∙ not-true yet t) (and-left _ _ u)))) ∙ ap (pickRow set X so-far) is
 
-    module _ (inside : Bool) (is-inside : inside ≡ subset case set) where
+    module _ (inside : Bool) (is-inside : inside ≡ subset (row .case) set) where
       pub row-outside : not inside ≡ true → so-far ≡ pickRow set X so-far (rowAt image at)
       unfolding taking
       row-outside t =
-          sym (take-no set X so-far (rowAt image at)
-          (is-false _ (λ u. fails (sym is-inside ∙ not-true inside t) (subst (λ (x : ℕ). T (subset x set)) (sym is-case) (and-right _ _ u)))))
+          sym (take-no set X so-far (rowOf row) (is-false _ (λ u. fails (sym is-inside ∙ not-true inside t) (and-right _ _ u))))
+          ∙ ap (pickRow set X so-far) is
 
-      pub row-picked : (states : ℕ) → not yet ≡ false → not inside ≡ false → states ≡ union (so-far .states) (single (byteAt image at))
-          → record { states = states; case = union (so-far .case) case } ≡ pickRow set X so-far (rowAt image at)
+      pub row-picked : (states : ℕ) → not yet ≡ false → not inside ≡ false → states ≡ union (so-far .states) (single (row .state .0))
+          → record { states = states; case = union (so-far .case) (row .case) } ≡ pickRow set X so-far (rowAt image at)
       unfolding taking
       row-picked states u v e =
-          ap (λ (x : ℕ). record { states = x; case = union (so-far .case) case }) e
-          ∙ ap (λ (x : ℕ). record { states = union (so-far .states) (single (byteAt image at)); case = union (so-far .case) x }) is-case
-          ∙ sym (take-yes set X so-far (rowAt image at)
-          (is-true _ (and-both _ _ (holds (sym is-yet ∙ not-false yet u))
-          (subst (λ (x : ℕ). T (subset x set)) is-case (holds (sym is-inside ∙ not-false inside v))))))
+          ap (λ (x : ℕ). record { states = x; case = union (so-far .case) (row .case) }) e
+          ∙ sym (take-yes set X so-far (rowOf row)
+          (is-true _ (and-both _ _ (holds (sym is-yet ∙ not-false yet u)) (holds (sym is-inside ∙ not-false inside v)))))
+          ∙ ap (pickRow set X so-far) is
 
 -- the walk over the rows from start to end has come to the row at `at`: the rows from there on give what all give
 pub record Picking (image : List ℕ) (start end set X : ℕ) (so-far : Picked) (at : ℕ) : Type 0 where
@@ -250,9 +250,3 @@ module _ {image : List ℕ} {start end set X at : ℕ} {so-far : Picked} (pickin
   pub picking-ends : end ≤ at → so-far .case ≡ reached (statesOf image) (rowsBetween image start end) set X
   unfolding pickRows
   picking-ends l = answers (ap (pickRows set X so-far) (none-ahead (picking .at-row) l))
-
--- the rows of a symbol
-pub symbol-reached : (image : List ℕ) (s : ℕ) (asked : Valid image × (s < symbolsOf image)) (start size : ℕ) → start ≡ offsetOf image s → size ≡ sizeOf image s
-    → (set X case : ℕ) → case ≡ reached (statesOf image) (rowsBetween image start (start + size)) set X → case ≡ reached (statesOf image) (rowsOf image s) set X
-symbol-reached image s asked start size eo ez set X case e =
-    e ∙ ap (λ (rows : List Row). reached (statesOf image) rows set X) (span-rows image s asked start size eo ez)

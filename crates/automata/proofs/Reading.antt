@@ -1,13 +1,15 @@
--- What reading an image answers: by what the checks found, and in 01's number and values, for every image. Assumes nothing.
-use Prim.Native.Nat.{ℕ, zero, suc, _≤_}
+-- What reading an image answers: by what the checks found, and in 01's number and values, for every image; and what a head says of its image. Assumes
+-- nothing.
+use Prim.Native.Nat.{ℕ, zero, suc, _^_, _≤_, _<_}
 use mathlib.Core.Path.{_≡_, refl, sym, ap, _∙_}
 use mathlib.Core.List.{List, [], _∷_}
 use native.Mathlib.Omega.{arith}
 use lib.ListN.{length}
 use Rattle.automata.specs.Image.{Valid, statesOf, symbolsOf, rowCountOf, initialOf, finalOf, checkImage}
-use Rattle.automata.specs.Answers.{readWith, readImage, imageNumber, headAfter}
+use Rattle.automata.specs.Answers.{ReadAs, readWith, readImage, imageNumber, headAfter}
+use Rattle.automata.specs.declared.image.Head.{Head}
 use Rattle.automata.specs.declared.image.Image.the-variants as Answer
-use Rattle.automata.proofs.ValidImage.{valid-kept}
+use Rattle.automata.proofs.ValidImage.{valid-kept, case-narrow}
 
 -- the head or the number, by what the checks answer
 pub read-refused : (image : List ℕ) (number : ℕ) → number ≡ checkImage image → (number ≡ 0 → ⊥) → Answer.Refused number ≡ readImage image
@@ -46,3 +48,26 @@ module _ (image : List ℕ) (valid : Valid image) where
       → headAfter before (readImage image) ≡ statesOf image ∷ symbolsOf image ∷ rowCountOf image ∷ initialOf image ∷ finalOf image ∷ []
   unfolding headAfter
   reading-valid-values before = ap (headAfter before) (sym (read-valid image (checkImage image) _ _ _ refl valid refl refl refl))
+
+-- what a head says of its image
+module _ {image : List ℕ} {head : Head} (read : ReadAs image head) where
+  pub head-states : head .states ≡ statesOf image
+  head-states = ap (λ (h : Head). h .states) (read .read)
+
+  pub head-symbols : head .symbols ≡ symbolsOf image
+  head-symbols = ap (λ (h : Head). h .symbols) (read .read)
+
+  pub head-initial : head .initial ≡ initialOf image
+  head-initial = ap (λ (h : Head). h .initial) (read .read)
+
+  pub head-rows : head .rows ≡ rowCountOf image
+  head-rows = ap (λ (h : Head). h .rows) (read .read)
+
+  pub initial-narrow : head .initial < 2 ^ 64
+  initial-narrow = rw head-initial (case-narrow image (read .valid) (initialOf image) (valid-kept image (read .valid) .initial-within))
+
+  pub some-state : 1 ≤ head .states
+  some-state = rw head-states (valid-kept image (read .valid) .some-state)
+
+  pub states-fit : head .states ≤ 64
+  states-fit = rw head-states (valid-kept image (read .valid) .states-fit)

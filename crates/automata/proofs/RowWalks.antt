@@ -15,14 +15,15 @@ use Rattle.lists.proofs.Lists.{in-left, in-right}
 use Rattle.masks.specs.Sets.{subset, union, single, full}
 use Rattle.masks.proofs.Laws.{subset-members, empty-members, full-members}
 use Rattle.automata.specs.Bytes.{byteAt, little8}
-use Rattle.automata.specs.Image.{Row, Valid, statesOf, symbolsOf, offsetOf, sizeOf, rowAt, rowsFrom, rowsOf}
+use Rattle.automata.specs.Image.{Row, Valid, statesOf, symbolsOf, rowCountOf, offsetOf, sizeOf, rowsStart, spanStart, rowAt, rowsFrom, rowsOf}
 use Rattle.automata.specs.Automaton.{withRow, withRows, backward, bringAllIn, rowsWalked}
-use Rattle.automata.specs.Walk.{Walks, RowsStand, rowsBetween, Span, AtRow, Walking}
-use Rattle.automata.proofs.ValidImage.{valid-kept, span-in, span-nines, pair-in, rows-of-symbol, valid-rows}
+use Rattle.automata.specs.declared.rows.Row as Read
+use Rattle.automata.specs.Walk.{Walks, rowOf, RowsStand, rowsBetween, Span, AtRow, Walking}
+use Rattle.automata.proofs.ValidImage.{valid-kept, span-begins, span-in, span-nines, spans-nine, pair-in, rows-of-symbol, valid-rows}
 use Rattle.automata.proofs.BackwardSets.{not-in-before, walked-is, all-in-full, all-in-stays}
 
 -- rows from a place on: how many, some of them and those behind, and the first of them
-rows-count : (image : List ℕ) (count at : ℕ) → length (rowsFrom image count at) ≡ count
+pub rows-count : (image : List ℕ) (count at : ℕ) → length (rowsFrom image count at) ≡ count
 unfolding rowsFrom
 rows-count image zero at = refl
 rows-count image (suc count) at = ap suc (rows-count image count (at + 9))
@@ -52,11 +53,13 @@ with-rows-joined X set (row ∷ rows) more = with-rows-joined X (withRow X set r
 
 -- what one row adds, by the test of its case, and what some rows add and then those behind them
 module _ (image : List ℕ) (X set at : ℕ) where
-  pub row-tested : (case result : ℕ) (b : Bool) → case ≡ little8 image (at + 1) → b ≡ subset case X
-      → result ≡ choose b (union set (single (byteAt image at))) set → result ≡ withRows X set (rowsFrom image 1 at)
+  pub row-tested : (row : Read.Row) (result : ℕ) (b : Bool) → rowOf row ≡ rowAt image at → b ≡ subset (row .case) X
+      → result ≡ choose b (union set (single (row .state .0))) set → result ≡ withRows X set (rowsFrom image 1 at)
   unfolding withRow withRows rowsFrom
-  row-tested case result b c e r =
-      r ∙ ap (λ (x : Bool). choose x (union set (single (byteAt image at))) set) (e ∙ ap (λ (x : ℕ). subset x X) c)
+  row-tested row result b is e r =
+      r
+      ∙ ap (λ (x : Bool). choose x (union set (single (row .state .0))) set) e
+      ∙ ap (withRow X set) is
 
   with-more-rows : (some more middle result : ℕ) → middle ≡ withRows X set (rowsFrom image some at)
       → result ≡ withRows X middle (rowsFrom image more (at + 9 * some)) → result ≡ withRows X set (rowsFrom image (some + more) at)
@@ -74,30 +77,37 @@ module _ (image : List ℕ) (X set at : ℕ) where
       → result ≡ withRows X set (rowsFrom image 4 at)
   four-rows = with-more-rows 2 2
 
--- the state of a row that stands there fits a mask
+-- a row that stands there, as it is read: its state fits a mask
 pub state-fits : {image : List ℕ} {at : ℕ} → RowsStand image 1 at → byteAt image at < 64
 unfolding rowsFrom
 state-fits {image} {at} stand = stand .states (rowAt image at) (here refl)
 
--- of rows that stand there, so many behind others do
+pub row-read : (image : List ℕ) (at case : ℕ) → case ≡ little8 image (at + 1) → record { state = byteAt image at; case = case } ≡ rowAt image at
+row-read image at case e = ap (λ (x : ℕ). record { state = byteAt image at; case = x }) e
+
+-- of rows from a place on, so many behind others are some of them
+module _ (image : List ℕ) (count at before part : ℕ) (l : before + part ≤ count) where
+  behind : ℕ
+  behind = count - (before + part)
+
+  split : rowsFrom image count at
+      ≡ rowsFrom image before at ++ (rowsFrom image part (at + 9 * before) ++ rowsFrom image behind (at + 9 * before + 9 * part))
+  unfolding behind
+  split =
+      ap (λ (n : ℕ). rowsFrom image n at) (omega arith)
+      ∙ rows-joined image before (part + (count - (before + part))) at
+      ∙ ap (λ (rest : List Row). rowsFrom image before at ++ rest) (rows-joined image part (count - (before + part)) (at + 9 * before))
+
+  part-among : {row : Row} {place : ℕ} → place ≡ at + 9 * before → row ∈ rowsFrom image part place → row ∈ rowsFrom image count at
+  part-among {row} e m =
+      subst (λ (rows : List Row). row ∈ rows) (sym split)
+      (in-right (rowsFrom image before at) (in-left _ (subst (λ (place : ℕ). row ∈ rowsFrom image part place) e m)))
+
+-- and stand there too
 pub part-stands : {image : List ℕ} {count at place : ℕ} (before part : ℕ) → RowsStand image count at → before + part ≤ count → place ≡ at + 9 * before
     → RowsStand image part place
 part-stands {image} {count} {at} before part stand l e =
-    subst (RowsStand image part) (sym e)
-    (record {
-      inside = omega (arith, stand .inside);
-      states = λ row m. stand .states row (subst (λ (rows : List Row). row ∈ rows) (sym split) (in-right (rowsFrom image before at) (in-left _ m)));
-    })
-  where
-    behind : ℕ
-    behind = count - (before + part)
-
-    split : rowsFrom image count at
-        ≡ rowsFrom image before at ++ (rowsFrom image part (at + 9 * before) ++ rowsFrom image behind (at + 9 * before + 9 * part))
-    split =
-        ap (λ (n : ℕ). rowsFrom image n at) (omega arith)
-        ∙ rows-joined image before (part + behind) at
-        ∙ ap (λ (rest : List Row). rowsFrom image before at ++ rest) (rows-joined image part behind (at + 9 * before))
+    record { inside = omega (arith, stand .inside); states = λ row m. stand .states row (part-among image count at before part l e m) }
 
 -- a walk has come to the row at `at`
 module _ {image : List ℕ} {start end at : ℕ} (at-row : AtRow image start end at) where
@@ -238,22 +248,32 @@ module _ (image : List ℕ) (s : ℕ) (asked : Valid image × (s < symbolsOf ima
           states = λ row m. valid-rows image (asked .0) s (asked .1) row (rw span-rows at m) .state-below;
         }
 
-    pub walk-starts : (X : ℕ) → Walking image start (start + size) X start 0
-    unfolding first-row bringAllIn backward withRows
-    walk-starts X =
-        record {
-          at-row = first-row symbol-span;
-          so-far = refl;
-          not-all = λ t.
-              empty-members 0
-              (subset-members (full (statesOf image)) 0 t 0 (full-members (statesOf image) 0 .1 (valid-kept image (asked .0) .some-state)));
-        }
+  -- the rows of a symbol are some of the m rows
+  pub symbol-among : {row : Row} → row ∈ rowsOf image s → row ∈ rowsFrom image (rowCountOf image) (rowsStart image)
+  symbol-among {row} m =
+      let nine = spans-nine image (asked .0) s (omega (arith, asked .1)) in
+      let begins = span-begins image (asked .0) s (asked .1) in
+      part-among image (rowCountOf image) (rowsStart image) ((spanStart image s - rowsStart image) / 9) (sizeOf image s / 9)
+      (omega (arith, begins, span-in image (asked .0) s (asked .1), valid-kept image (asked .0) .whole))
+      (omega (arith, begins)) (rw (rows-of-symbol image s (asked .1)) at m)
 
-    module _ {X at set : ℕ} (walk : Walking image start (start + size) X at set) where
-      -- the answers at a row that brings the last state in, and behind the last row
-      pub walk-filled : (more all : ℕ) → more ≡ all → at < start + size → more ≡ withRows X set (rowsFrom image 1 at) → all ≡ full (statesOf image)
-          → Walks (statesOf image) (rowsOf image s) X more ((at + 9 - start) / 9)
-      walk-filled more all f l e ea = subst (λ (rows : List Row). Walks (statesOf image) rows X more ((at + 9 - start) / 9)) span-rows (one-answers walk more all l e ea f)
+-- the walk for a backward set over the rows of a span: it begins with no state, and answers at a row that brings the last state in, or behind the last row
+module _ {image : List ℕ} {start end : ℕ} (span : Span image start end) where
+  pub walk-starts : (X : ℕ) → Walking image start end X start 0
+  unfolding first-row bringAllIn backward withRows
+  walk-starts X =
+      record {
+        at-row = first-row span;
+        so-far = refl;
+        not-all = λ t.
+            empty-members 0
+            (subset-members (full (statesOf image)) 0 t 0 (full-members (statesOf image) 0 .1 (valid-kept image (span .valid) .some-state)));
+      }
 
-      pub walk-ended : start + size ≤ at → Walks (statesOf image) (rowsOf image s) X set ((at - start) / 9)
-      walk-ended l = subst (λ (rows : List Row). Walks (statesOf image) rows X set ((at - start) / 9)) span-rows (none-answers walk l)
+module _ {image : List ℕ} {start end X at set : ℕ} (walk : Walking image start end X at set) (rows : List Row) (are : rowsBetween image start end ≡ rows) where
+  pub walk-filled : (more all : ℕ) → more ≡ all → at < end → more ≡ withRows X set (rowsFrom image 1 at) → all ≡ full (statesOf image)
+      → Walks (statesOf image) rows X more ((at + 9 - start) / 9)
+  walk-filled more all f l e ea = subst (λ (r : List Row). Walks (statesOf image) r X more ((at + 9 - start) / 9)) are (one-answers walk more all l e ea f)
+
+  pub walk-ended : end ≤ at → Walks (statesOf image) rows X set ((at - start) / 9)
+  walk-ended l = subst (λ (r : List Row). Walks (statesOf image) r X set ((at - start) / 9)) are (none-answers walk l)

@@ -117,7 +117,7 @@ module _ (image : List ℕ) (valid : Valid image) where
       omega (arith, span-begins s (omega arith), span-next s, spans-climb count (suc s) (omega arith))
 
   -- a whole number of rows stands before each span
-  spans-nine : (s : ℕ) → s ≤ symbolsOf image → (rowsStart image ≤ spanStart image s) × ((spanStart image s - rowsStart image) % 9 ≡ 0)
+  pub spans-nine : (s : ℕ) → s ≤ symbolsOf image → (rowsStart image ≤ spanStart image s) × ((spanStart image s - rowsStart image) % 9 ≡ 0)
   unfolding spanStart
   spans-nine zero l = omega arith
   spans-nine (suc s) l = let h = spans-nine s (omega arith) in omega (arith, span-begins s (omega arith), span-nines s (omega arith))

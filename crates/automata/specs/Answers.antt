@@ -1,5 +1,6 @@
 -- What reading an image answers, and 01's number and values for each of its cases. Assumes nothing: these are definitions.
 use Prim.Native.Nat.{ℕ, zero, suc}
+use mathlib.Core.Path.{_≡_}
 use mathlib.Core.List.{List, [], _∷_}
 use Rattle.automata.specs.Image.{statesOf, symbolsOf, rowCountOf, initialOf, finalOf, checkImage}
 use Rattle.automata.specs.declared.image.Head.{Head}
@@ -15,6 +16,11 @@ headOf image = record {
   initial = initialOf image;
   finals = finalOf image;
 }
+
+-- an image that no check refuses, with its head
+pub record ReadAs (image : List ℕ) (head : Head) : Type 0 where
+  pub valid : checkImage image ≡ 0
+  pub read : head ≡ headOf image
 
 -- the head where no check applies, else the refusing number
 unfoldable pub readWith : List ℕ → ℕ → Image

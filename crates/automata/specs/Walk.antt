@@ -9,6 +9,7 @@ use Rattle.lists.specs.Tests.{_and_, choose}
 use Rattle.lists.specs.Lists.{Each}
 use Rattle.masks.specs.Sets.{subset, union, single, absent}
 use Rattle.automata.specs.Image.{Row, Valid, statesOf, rowsFrom}
+use Rattle.automata.specs.declared.rows.Row as Read
 use Rattle.automata.specs.Automaton.{backward, bringAllIn, rowsWalked}
 use Rattle.automata.specs.declared.picks.Picked.{Picked}
 
@@ -16,6 +17,10 @@ use Rattle.automata.specs.declared.picks.Picked.{Picked}
 pub record Walks (n : ℕ) (rows : List Row) (X set walked : ℕ) : Type 0 where
   pub states : set ≡ backward rows X
   pub counted : walked ≡ rowsWalked n rows X
+
+-- what was read, as a row
+abbrev pub rowOf : Read.Row → Row
+rowOf row = record { state = row .state .0; case = row .case }
 
 -- so many rows stand in the image from a place on, and the state of each fits a mask
 pub record RowsStand (image : List ℕ) (count at : ℕ) : Type 0 where

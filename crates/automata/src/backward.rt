@@ -1,9 +1,7 @@
 // The backward set of a case by a symbol, from the rows where they stand in the image. The walk over the rows ends once every state is in.
-use crate::bytes::read8;
 use crate::image::Symbol;
-use crate::image::offset_of;
-use crate::image::size_of;
-use masks::State;
+use crate::rows::row_at;
+use crate::rows::rows_of;
 ghost use mathlib.Core.Path.{_≡_};
 ghost use Prim.Native.Nat.{_<_};
 ghost use Rattle.masks.specs.Sets.{full};
@@ -22,11 +20,8 @@ fn with_row(image: &[u8], at: usize, x: u64, set: u64) -> u64
     requires { ⌜ RowsStand (now image) 1 at ⌝ }
     ensures { λ r. ⌜ r ≡ withRows x set (rowsFrom (now (image .entry)) 1 at) ⌝ }
 {
-    masks::insert_if(
-        masks::adds_none(read8(image, at + 1), x),
-        State(image[at]),
-        set,
-    )
+    let row = row_at(image, at);
+    masks::insert_if(masks::adds_none(row.case, x), row.state, set)
 }
 
 // The set, with what two rows add.
@@ -76,8 +71,9 @@ pub fn backward(image: &[u8], symbol: Symbol, x: u64) -> Walked
     requires { ⌜ Valid (now image) × (symbol .0 < symbolsOf (now image)) ⌝ }
     ensures { λ r. ⌜ Walks (statesOf (now (image .entry))) (rowsOf (now (image .entry)) (symbol .0)) x (r .set) (r .rows) ⌝ }
 {
-    let start = offset_of(image, symbol);
-    let end = start + size_of(image, symbol);
+    let rows = rows_of(image, symbol);
+    let start = rows.start;
+    let end = rows.end;
     let all = masks::full(image[0]);
     let reached = by_fours(image, start, end, x, all);
     let mut at = reached.at;

@@ -1,9 +1,7 @@
 // The case that a step reaches where each state picks its first row whose case lies inside a set. One walk over the symbol's rows picks for all states.
-use crate::bytes::read8;
 use crate::image::Symbol;
-use crate::image::offset_of;
-use crate::image::size_of;
-use masks::State;
+use crate::rows::row_at;
+use crate::rows::rows_of;
 ghost use mathlib.Core.Path.{_≡_};
 ghost use Prim.Native.Nat.{_<_};
 ghost use Rattle.automata.specs.Image.{Valid, statesOf, symbolsOf, rowAt, rowsOf};
@@ -21,17 +19,16 @@ fn pick_row(image: &[u8], at: usize, set: u64, x: u64, picked: Picked) -> Picked
     requires { ⌜ RowsStand (now image) 1 at ⌝ }
     ensures { λ r. ⌜ r ≡ pickRow set x picked (rowAt (now (image .entry)) at) ⌝ }
 {
-    let case = read8(image, at + 1);
-    let state = image[at];
-    if !masks::absent(State(state), x, picked.states) {
+    let row = row_at(image, at);
+    if !masks::absent(row.state, x, picked.states) {
         return picked;
     }
-    if !masks::subset(case, set) {
+    if !masks::subset(row.case, set) {
         return picked;
     }
     Picked {
-        states: masks::insert(State(state), picked.states),
-        case: picked.case | case,
+        states: masks::insert(row.state, picked.states),
+        case: picked.case | row.case,
     }
 }
 
@@ -57,7 +54,6 @@ pub fn reached(image: &[u8], symbol: Symbol, set: u64, x: u64) -> u64
     requires { ⌜ Valid (now image) × (symbol .0 < symbolsOf (now image)) ⌝ }
     ensures { λ r. ⌜ r ≡ reachedCase (statesOf (now (image .entry))) (rowsOf (now (image .entry)) (symbol .0)) set x ⌝ }
 {
-    let start = offset_of(image, symbol);
-    let end = start + size_of(image, symbol);
-    pick_rows(image, start, end, set, x)
+    let rows = rows_of(image, symbol);
+    pick_rows(image, rows.start, rows.end, set, x)
 }

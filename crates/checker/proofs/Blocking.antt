@@ -6,12 +6,14 @@ use native.Mathlib.Numerals.{add-one}
 use native.Mathlib.Omega.{arith}
 use lib.ListN.{length, take}
 use Rattle.lists.specs.Tests.{choose}
-use Rattle.automata.specs.Image.{initialOf}
+use Rattle.automata.specs.Image.{initialOf, rowsOf}
 use Rattle.automata.specs.declared.image.Head.{Head}
-use Rattle.machine.specs.Machine.{Blocker, Pending, Configuration, hintAt, chosenFrom, chosen, byStates, finalPending, pendingAfter, blockStep, blockersLack, judge}
+use Rattle.automata.specs.Answers.{ReadAs}
+use Rattle.machine.specs.Machine.{Blocker, Pending, Configuration, hintAt, chosenFrom, chosen, finalPending, pendingAfter, blockStep, blockersLack, judge}
 use Rattle.machine.specs.Machine as Machine
 use Rattle.machine.specs.Lent.{BlockerRoom, roomOf, unstampedRoom, blockersFrom, blockersIn, pendingFirst, columnBack, caseOf, symbolOf, placed}
 use Rattle.machine.specs.Runs.{systemOf, numberOf, casesIn, symbolsIn, tablesAfter}
+use Rattle.machine.specs.Hitting.{growthOf}
 use Rattle.machine.specs.Records.{Stage, configurationOf, pendingOf, recordOf, after}
 use Rattle.machine.proofs.Passing.{chosen-is, chosen-hinted}
 use Rattle.machine.proofs.LentTables.{column-back-length, pending-length, read-back-pending, placed-placed, placed-cases, placed-symbols}
@@ -24,11 +26,11 @@ use Rattle.machine.proofs.Unstamped.{unstamped-blocks, same-after, same-chosen}
 use Rattle.blockers.proofs.Closing.{long-holds}
 use Rattle.blockers.proofs.Placing.{even-holds, placed-table, placed-long}
 use Rattle.blockers.proofs.Changes.{held-room, held-count, held-fits, held-placed, full-room, full-room-stays}
-use Rattle.choices.specs.Found.{ReadAs, choiceOf}
+use Rattle.choices.specs.Found.{choiceOf}
 use Rattle.choices.specs.declared.Choice.{Choice}
 use Rattle.pending.specs.Room.{Holds as HoldsWord, Placed as PlacedWord}
 use Rattle.checker.specs.declared.record.Run.{Run}
-use Rattle.checker.specs.Stage.{stage, hintsOf, madeBy, blockOf, Ready, leftOf, countedOf, blockedOf, Leaves, Unpends, Pends, Countable}
+use Rattle.checker.specs.Stage.{stage, choicesOf, madeBy, blockOf, Ready, leftOf, countedOf, blockedOf, Leaves, Unpends, Pends, Countable}
 use Rattle.checker.proofs.Stages.{ready-holds, stopped-is}
 
 -- what stays pending, or F where nothing does
@@ -175,11 +177,11 @@ block-holds initial finals ready below choice up enters e = block-fits initial f
 
 -- the choice is the machine's
 module _ {image : List ℕ} {head : Head} {room : BlockerRoom} {cases symbols : List ℕ} {run : Run} (read : ReadAs image head)
-    (ready : Ready (stage room cases symbols run)) (hints : List ℕ) (below X : ℕ) (choice : Choice)
-    (chose : choiceOf choice ≡ chosenFrom (systemOf image) (byStates (systemOf image)) (blockersIn (take (run .held) (room .masks)) (take (run .held) (room .levels))) below X (hintAt hints (run .blocks))) where
-  chosen-here : chosen (systemOf image) (hintsOf image hints) (configurationOf (stage room cases symbols run)) below X ≡ choiceOf choice
+    (ready : Ready (stage room cases symbols run)) (hints : List ℕ) (way below X : ℕ) (choice : Choice)
+    (chose : choiceOf choice ≡ chosenFrom (systemOf image) (growthOf way (systemOf image) (rowsOf image)) (blockersIn (take (run .held) (room .masks)) (take (run .held) (room .levels))) below X (hintAt hints (run .blocks))) where
+  chosen-here : chosen (systemOf image) (choicesOf image hints way) (configurationOf (stage room cases symbols run)) below X ≡ choiceOf choice
   unfolding chosen
-  chosen-here = sym (chose ∙ same-chosen (systemOf image) (part-alike (ready-holds ready) (initialOf image)) below X (hintAt hints (run .blocks)))
+  chosen-here = sym (chose ∙ same-chosen (systemOf image) (part-alike (ready-holds ready) (initialOf image)) (rowsOf image) way below X (hintAt hints (run .blocks)))
 
   pub block-countable : run .steps < 18446744073709551615 → Countable run (choice .hinted)
   block-countable few =
@@ -188,12 +190,12 @@ module _ {image : List ℕ} {head : Head} {room : BlockerRoom} {cases symbols : 
         few-blocks = ready .blocks-fit;
         few-accepted = ready .hints-fit;
         one-hint = subst (λ (made : Machine.Choice). made .hinted ≤ 1) chosen-here
-            (chosen-hinted (chosen-is (systemOf image) (hintsOf image hints) (configurationOf (stage room cases symbols run)) below X));
+            (chosen-hinted (chosen-is (systemOf image) (choicesOf image hints way) (configurationOf (stage room cases symbols run)) below X));
       }
 
   pub block-is : {later : Stage}
       → later ≡ madeBy (λ (c : Configuration). blockStep (head .initial) (head .finals ∷ []) c (pendingFirst cases symbols (run .pending - 1)) below (choiceOf choice))
       (stage room cases symbols run)
-      → later ≡ madeBy (blockOf image hints (pendingFirst cases symbols (run .pending - 1)) below X) (stage room cases symbols run)
+      → later ≡ madeBy (blockOf image hints way (pendingFirst cases symbols (run .pending - 1)) below X) (stage room cases symbols run)
   unfolding madeBy blockOf
   block-is made = made ∙ rw (read .read, chosen-here)

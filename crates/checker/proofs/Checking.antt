@@ -9,7 +9,7 @@ use lib.ListN.{length, replicate, length-replicate}
 use Rattle.lists.specs.Tests.{_or_, neg}
 use Rattle.lists.proofs.Tests.{is-false, or-left, or-right, neg-neg}
 use Rattle.automata.specs.Image.{check, checkImage}
-use Rattle.automata.specs.Answers.{readWith, readImage}
+use Rattle.automata.specs.Answers.{ReadAs, readWith, readImage}
 use Rattle.automata.specs.declared.image.Head.{Head}
 use Rattle.automata.specs.declared.image.Image.{Image}
 use Rattle.automata.specs.declared.image.Image.the-variants as Answer
@@ -17,18 +17,32 @@ use Rattle.automata.proofs.WordTests.{answer-valid, answer-head}
 use Rattle.machine.specs.Machine.{Blocker, Next, comesTo}
 use Rattle.machine.specs.Lent.{BlockerRoom, EvenRoom, roomOf, column, placed, eachTable, withTable}
 use Rattle.machine.specs.Runs.{Terms, Result, roomsOf, refused, casesIn, symbolsIn, tablesAfter, resultOf}
-use Rattle.machine.specs.Runs.{oddRooms, oversize, unknownEdition, checkTerms, checkRun, endOf, runWith, runOf}
+use Rattle.machine.specs.Runs.{oddRooms, oversize, unknownEdition, unknownWay, checkTerms, checkRun, endOf, runWith, runOf}
 use Rattle.machine.proofs.LentTables.{tables-same, tables-even, placed-whole}
 use Rattle.machine.proofs.RunsKept.{check-fails}
 use Rattle.checker.specs.declared.run.Counts.{Counts}
 use Rattle.checker.specs.Stage.{lentOf}
 use Rattle.checker.specs.Whole.{Checked, Cleared, Runnable, resultWith, machineResult}
 
--- the checks of the rooms and the edition, each from the tests before it
-module _ (masks levels entered cases symbols hints : List ℕ) (edition : ℕ) where
+-- the check of the way
+module _ (way : ℕ) where
+  pub first-way : way ≡ 0 → 0 ≡ check (unknownWay way) 37 0
+  unfolding check unknownWay _or_ neg
+  first-way e = sym (rw e)
+
+  pub second-way : way ≡ 1 → 0 ≡ check (unknownWay way) 37 0
+  unfolding check unknownWay _or_ neg
+  second-way e = sym (rw e)
+
+  pub no-way : (way ≡ 0 → ⊥) → (way ≡ 1 → ⊥) → 37 ≡ check (unknownWay way) 37 0
+  unfolding check unknownWay _or_ neg
+  no-way first second = sym (rw (ne-eqb _ _ first, ne-eqb _ _ second))
+
+-- the checks of the rooms, the edition and the way, each from the tests before it
+module _ (masks levels entered cases symbols hints : List ℕ) (edition way : ℕ) where
   -- what they answer
   abbrev answered : ℕ
-  answered = checkTerms (lentOf (roomOf masks levels entered) cases symbols) hints edition 0
+  answered = checkTerms (lentOf (roomOf masks levels entered) cases symbols) hints edition way 0
 
   pub odd-levels : (length masks ≡ length levels → ⊥) → 30 ≡ answered
   unfolding checkTerms check oddRooms _or_ neg
@@ -59,9 +73,9 @@ module _ (masks levels entered cases symbols hints : List ℕ) (edition : ℕ) w
             unfolding checkTerms check oddRooms oversize _or_ neg
             over-hints l = rw (eq-eqb _ _ even, eq-eqb _ _ even-entered, eq-eqb _ _ even-word, le-ltb _ _ few, le-ltb _ _ few-word, lt-ltb _ _ l)
 
-            -- the rooms pass: what is left is the edition's check
+            -- the rooms pass: what is left are the checks of the edition and the way
             module _ (few-hints : length hints ≤ 65536) where
-              rooms-pass : answered ≡ check (unknownEdition edition) 36 0
+              rooms-pass : answered ≡ check (unknownEdition edition) 36 (check (unknownWay way) 37 0)
               unfolding checkTerms check oddRooms oversize _or_ neg
               rooms-pass =
                   rw (eq-eqb _ _ even, eq-eqb _ _ even-entered, eq-eqb _ _ even-word, le-ltb _ _ few, le-ltb _ _ few-word, le-ltb _ _ few-hints)
@@ -70,13 +84,13 @@ module _ (masks levels entered cases symbols hints : List ℕ) (edition : ℕ) w
               unfolding check unknownEdition _or_ neg
               no-edition first second = sym (rooms-pass ∙ rw (ne-eqb _ _ first, ne-eqb _ _ second))
 
-              pub first-edition : edition ≡ 1 → 0 ≡ answered
+              pub first-edition : (number : ℕ) → edition ≡ 1 → number ≡ check (unknownWay way) 37 0 → number ≡ answered
               unfolding check unknownEdition _or_ neg
-              first-edition first = sym (rooms-pass ∙ rw first)
+              first-edition number first e = e ∙ sym (rooms-pass ∙ rw first)
 
-              pub second-edition : edition ≡ 2 → 0 ≡ answered
+              pub second-edition : (number : ℕ) → edition ≡ 2 → number ≡ check (unknownWay way) 37 0 → number ≡ answered
               unfolding check unknownEdition _or_ neg
-              second-edition second = sym (rooms-pass ∙ rw second)
+              second-edition number second e = e ∙ sym (rooms-pass ∙ rw second)
 
 -- a table of which every place was cleared
 zeros-length : (before after : List ℕ) → after ≡ replicate (length before) 0 → length after ≡ length before
@@ -162,10 +176,10 @@ module _ {image : List ℕ} {head : Head} {room room′ : BlockerRoom} {cases sy
       masks-length (zeros-length cases cases′ (cleared .new-cases))
 
 -- what the rooms' checks leave where none applies
-rooms-checked : (room : BlockerRoom) (cases symbols hints : List ℕ) (edition : ℕ) → checkTerms (lentOf room cases symbols) hints edition 0 ≡ 0
+rooms-checked : (room : BlockerRoom) (cases symbols hints : List ℕ) (edition way : ℕ) → checkTerms (lentOf room cases symbols) hints edition way 0 ≡ 0
     → Checked room cases symbols
 unfolding checkTerms oddRooms oversize
-rooms-checked room cases symbols hints edition e =
+rooms-checked room cases symbols hints edition way e =
     let odd = check-fails _ _ _ e in
     let over = check-fails _ _ _ (odd .1) in
     record {
@@ -178,44 +192,45 @@ rooms-checked room cases symbols hints edition e =
     }
 
 -- a valid image and rooms that pass their checks
-pub run-runnable : (image : List ℕ) (room : BlockerRoom) (cases symbols hints : List ℕ) (edition : ℕ) (answer : Image) → answer ≡ readImage image → (head : Head) → answer ≡ Answer.Valid head
-    → (number : ℕ) → number ≡ checkTerms (lentOf room cases symbols) hints edition 0 → number ≡ 0 → Runnable image head room cases symbols
-run-runnable image room cases symbols hints edition answer read head e number rooms z =
-    record {
-      image-read = record { valid = answer-valid image answer read head e; read = answer-head image answer read head e };
-      rooms = rooms-checked room cases symbols hints edition (sym rooms ∙ z);
-    }
+pub run-runnable : {image : List ℕ} {head : Head} → ReadAs image head → (room : BlockerRoom) (cases symbols hints : List ℕ) (edition way number : ℕ)
+    → number ≡ checkTerms (lentOf room cases symbols) hints edition way 0 → number ≡ 0 → Runnable image head room cases symbols
+run-runnable read room cases symbols hints edition way number rooms z =
+    record { image-read = read; rooms = rooms-checked room cases symbols hints edition way (sym rooms ∙ z) }
 
 -- the counts of a refused run
 abbrev refusal : ℕ → Counts
 refusal number = record { number = number; steps = 0; level = record { 0 = 0 }; blockers = 0; accepted = 0 }
 
 -- the whole run, by its checks
-module _ (image : List ℕ) (room : BlockerRoom) (cases symbols : List ℕ) (terms : Terms) (answer : Image) (read : answer ≡ readImage image) where
+module _ (image : List ℕ) (room : BlockerRoom) (cases symbols : List ℕ) (terms : Terms) where
   refused-result : (number : ℕ) → (number ≡ 0 → ⊥) → checkRun image (lentOf room cases symbols) terms ≡ number
       → resultWith (refusal number) room cases symbols ≡ runOf image (lentOf room cases symbols) terms
   unfolding runOf runWith refused
   refused-result zero n e = absurd (n refl)
   refused-result (suc number) n e = sym (rw e)
 
-  pub run-refuses-image : (number : ℕ) (r : Counts) → answer ≡ Answer.Refused number → r ≡ refusal number
-      → resultWith r room cases symbols ≡ runOf image (lentOf room cases symbols) terms
-  unfolding checkRun readImage readWith checkTerms
-  run-refuses-image number r e q = at (checkImage image) (sym read ∙ e) refl
-    where
-      at : (checked : ℕ) → readWith image checked ≡ Answer.Refused number → checkImage image ≡ checked
-          → resultWith r room cases symbols ≡ runOf image (lentOf room cases symbols) terms
-      at zero f c = let z : _≡_ {A = ℕ} 0 1 = cc in absurd (omega arith)
-      at (suc checked) f c =
-          let z : suc checked ≡ number = cc in
-          ap (λ (x : Counts). resultWith x room cases symbols) q
-          ∙ refused-result number (λ none. omega (arith, z)) (rw c z)
+  module _ (answer : Image) (read : answer ≡ readImage image) where
+    pub run-refuses-image : (number : ℕ) (r : Counts) → answer ≡ Answer.Refused number → r ≡ refusal number
+        → resultWith r room cases symbols ≡ runOf image (lentOf room cases symbols) terms
+    unfolding checkRun readImage readWith checkTerms
+    run-refuses-image number r e q = at (checkImage image) (sym read ∙ e) refl
+      where
+        at : (checked : ℕ) → readWith image checked ≡ Answer.Refused number → checkImage image ≡ checked
+            → resultWith r room cases symbols ≡ runOf image (lentOf room cases symbols) terms
+        at zero f c = let z : _≡_ {A = ℕ} 0 1 = cc in absurd (omega arith)
+        at (suc checked) f c =
+            let z : suc checked ≡ number = cc in
+            ap (λ (x : Counts). resultWith x room cases symbols) q
+            ∙ refused-result number (λ none. omega (arith, z)) (rw c z)
 
-  module _ (head : Head) (e : answer ≡ Answer.Valid head) (number : ℕ)
-      (passed : number ≡ checkTerms (lentOf room cases symbols) (terms .hints) (terms .edition) 0) where
+    pub run-reads : (head : Head) → answer ≡ Answer.Valid head → ReadAs image head
+    run-reads head e = record { valid = answer-valid image answer read head e; read = answer-head image answer read head e }
+
+  module _ {head : Head} (read : ReadAs image head) (number : ℕ)
+      (passed : number ≡ checkTerms (lentOf room cases symbols) (terms .hints) (terms .edition) (terms .way) 0) where
     checked-is : checkRun image (lentOf room cases symbols) terms ≡ number
     unfolding checkRun
-    checked-is = ap (checkTerms (lentOf room cases symbols) (terms .hints) (terms .edition)) (answer-valid image answer read head e) ∙ sym passed
+    checked-is = ap (checkTerms (lentOf room cases symbols) (terms .hints) (terms .edition) (terms .way)) (read .valid) ∙ sym passed
 
     pub run-refuses-terms : (r : Counts) → (number ≡ 0 → ⊥) → r ≡ refusal number
         → resultWith r room cases symbols ≡ runOf image (lentOf room cases symbols) terms

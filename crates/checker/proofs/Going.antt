@@ -9,11 +9,12 @@ use lib.ListN.{length, replicate}
 use Rattle.lists.specs.Tests.{choose}
 use Rattle.automata.specs.Image.{Valid}
 use Rattle.automata.specs.declared.image.Head.{Head}
+use Rattle.automata.specs.Answers.{ReadAs}
 use Rattle.machine.specs.Machine.{Configuration, Next, goesOn, ends, advance, chain, start, begin, beginning, nonempty, startsFinal}
 use Rattle.machine.specs.Lent.{BlockerRoom, columnBack}
 use Rattle.machine.specs.Runs.{Lent, zeroed, Terms, Result, systemOf, roomsOf, givenOf, numberOf, casesIn, symbolsIn, tablesAfter, resultOf, endOf}
 use Rattle.machine.specs.Records.{Stage, pendingOf, recordOf, stepOf}
-use Rattle.machine.proofs.Passing.{byStates-sound}
+use Rattle.machine.proofs.Hitting.{growth-sound}
 use Rattle.machine.proofs.Steps.{Advanced, tried, advanced, advanced-counts}
 use Rattle.machine.proofs.Chains.{Working, chain-working, each-same, Begun, answered, finalAtOnce, started, begin-begun}
 use Rattle.machine.proofs.Driving.{one-call-more, calls-counted, calls-suffice}
@@ -23,7 +24,6 @@ use Rattle.machine.proofs.Judging.{Even, number-low, tables-zero}
 use Rattle.machine.proofs.Language.{Sound}
 use Rattle.machine.proofs.RecordSteps.{shown, Fitting, working-fits, shown-masks, shown-levels, shown-entered, shown-cases, shown-symbols, step-shown}
 use Rattle.blockers.proofs.Closing.{AsLong, long-itself, long-further}
-use Rattle.choices.specs.Found.{ReadAs}
 use Rattle.checker.specs.declared.record.Run.{Run}
 use Rattle.checker.specs.declared.run.Counts.{Counts}
 use Rattle.checker.specs.Stage.{lentOf, recordIn, stage, Ready}
@@ -82,7 +82,7 @@ module _ (image : List ℕ) (lent : Lent) (terms : Terms) where
     working : Working (systemOf image) (roomsOf lent) (w .to)
     working =
         chain-working (systemOf image) (image-lawful image valid) (roomsOf lent) (terms .edition) (replicate (w .calls) (givenOf image terms))
-        (each-same (λ g. Sound (systemOf image) (g .grow)) (givenOf image terms) (byStates-sound (systemOf image)) (w .calls)) (w .is)
+        (each-same (λ g. Sound (systemOf image) (g .grow)) (givenOf image terms) (growth-sound image valid (terms .way)) (w .calls)) (w .is)
 
     fits : Fitting lent (w .to)
     fits = working-fits lent working

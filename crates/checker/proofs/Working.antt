@@ -15,6 +15,7 @@ use Rattle.masks.specs.Sets.{subset}
 use Rattle.automata.specs.Image.{symbolsOf, initialOf}
 use Rattle.automata.specs.declared.image.Head.{Head}
 use Rattle.automata.specs.declared.image.Symbol.{Symbol}
+use Rattle.automata.specs.Answers.{ReadAs}
 use Rattle.machine.specs.System.{System}
 use Rattle.machine.specs.Machine.{Blocker, Pending, Configuration, Given, oneMore, blocked, settled, qualifies, wordOf, extendStep, workOn, workStep, stepOn, step}
 use Rattle.machine.specs.Machine.{Step, nonempty, goesOn, ends, judge}
@@ -25,12 +26,12 @@ use Rattle.machine.proofs.LentTables.{blockers-length, pending-length}
 use Rattle.machine.proofs.Unstamped.{same-qualifies}
 use Rattle.blockers.specs.Room.{tableOf}
 use Rattle.blockers.proofs.Parts.{part-alike}
-use Rattle.choices.specs.Found.{ReadAs, foundOf}
+use Rattle.choices.specs.Found.{foundOf}
 use Rattle.choices.specs.declared.Found.{Found}
 use Rattle.choices.specs.declared.Found.the-variants.{At, Nothing}
 use Rattle.pending.specs.Room.{Holds as HoldsWord}
 use Rattle.checker.specs.declared.record.Run.{Run}
-use Rattle.checker.specs.Stage.{stage, hintsOf, madeBy, blockOf, Ready, countedOf, Leaves, LeavesPending, Extended}
+use Rattle.checker.specs.Stage.{stage, choicesOf, madeBy, blockOf, Ready, countedOf, Leaves, LeavesPending, Extended}
 use Rattle.checker.proofs.Stages.{ready-holds, word-changes}
 
 -- what the search for a symbol says of the first symbol that qualifies
@@ -94,7 +95,7 @@ module _ {image : List ℕ} {head : Head} {room : BlockerRoom} {cases symbols : 
   unfolding step stepOn workStep S c first X below table lowest rest
   worked given o e = rw (all-pending, below-is, e)
 
-  module _ (hints : List ℕ) {found : Found} (search-is : found ≡ foundOf (systemOf image) (getD cases (run .pending - 1) 0)
+  module _ (hints : List ℕ) (way : ℕ) {found : Found} (search-is : found ≡ foundOf (systemOf image) (getD cases (run .pending - 1) 0)
       (firstFrom (qualifies (systemOf image) (blockersIn (take (run .held) (room .masks)) (take (run .held) (room .levels))) (run .level .0 - run .pending) (getD cases (run .pending - 1) 0))
       (symbolsOf image) 0)) where
     found-is : found ≡ foundOf S X first
@@ -105,13 +106,13 @@ module _ {image : List ℕ} {head : Head} {room : BlockerRoom} {cases symbols : 
         (same-qualifies (systemOf image) (part-alike (ready-holds ready) (initialOf image)) (run .level .0 - run .pending) (getD cases (run .pending - 1) 0))
 
     pub work-blocks : {later : Stage} → found ≡ Nothing
-        → later ≡ madeBy (blockOf image hints (pendingFirst cases symbols (run .pending - 1)) (run .level .0 - run .pending) (getD cases (run .pending - 1) 0))
+        → later ≡ madeBy (blockOf image hints way (pendingFirst cases symbols (run .pending - 1)) (run .level .0 - run .pending) (getD cases (run .pending - 1) 0))
         (stage room cases symbols run)
-        → later ≡ madeBy (step (systemOf image) (hintsOf image hints)) (stage room cases symbols run)
+        → later ≡ madeBy (step (systemOf image) (choicesOf image hints way)) (stage room cases symbols run)
     unfolding madeBy blockOf workOn S c lowest rest below X
     work-blocks nothing made =
         made ∙ ap (λ (st : Step). after (stage room cases symbols run) (judge (roomsOf (stage room cases symbols run .tables)) (configurationOf (stage room cases symbols run)) st))
-        (sym (worked (hintsOf image hints) none (found-none _ _ _ (sym found-is ∙ nothing))))
+        (sym (worked (choicesOf image hints way) none (found-none _ _ _ (sym found-is ∙ nothing))))
 
     module _ (symbol : Symbol) (case : ℕ) (is : found ≡ At symbol case) where
       some-found : first ≡ some (symbol .0)
@@ -125,9 +126,9 @@ module _ {image : List ℕ} {head : Head} {room : BlockerRoom} {cases symbols : 
 
       -- the step extends
       extends-by : (b : Bool) → subset (head .initial) case ≡ b
-          → step S (hintsOf image hints) c ≡ extendStep S c lowest rest (symbol .0) b
+          → step S (choicesOf image hints way) c ≡ extendStep S c lowest rest (symbol .0) b
       unfolding workOn S X c lowest
-      extends-by b e = worked (hintsOf image hints) (some (symbol .0)) some-found ∙ ap (extendStep S c lowest rest (symbol .0)) (sym test-is ∙ e)
+      extends-by b e = worked (choicesOf image hints way) (some (symbol .0)) some-found ∙ ap (extendStep S c lowest rest (symbol .0)) (sym test-is ∙ e)
 
       -- at level 0 a backward set that qualifies contains I, so one that does not is pending above level 0
       pub pend-room : subset (head .initial) case ≡ false → HoldsWord (run .pending + 1) cases symbols
@@ -149,7 +150,7 @@ module _ {image : List ℕ} {head : Head} {room : BlockerRoom} {cases symbols : 
       module _ {cases′ symbols′ : List ℕ} {r : Run} where
         finds : subset (head .initial) case ≡ true
             → Leaves run (countedOf run 1 0) [] (symbol .0 ∷ wordOf (pendingFirst cases symbols (run .pending))) r cases symbols cases′ symbols′
-            → stage room cases′ symbols′ r ≡ madeBy (step (systemOf image) (hintsOf image hints)) (stage room cases symbols run)
+            → stage room cases′ symbols′ r ≡ madeBy (step (systemOf image) (choicesOf image hints way)) (stage room cases symbols run)
         unfolding madeBy judge extendStep casesIn symbolsIn recordOf numberOf pendingOf S c table here
         finds inside leaves =
             word-changes ready (ends (nonempty (symbol .0 ∷ wordOf (lowest ∷ rest)) (oneMore c table (run .level .0) (run .opened) []))) refl
@@ -160,7 +161,7 @@ module _ {image : List ℕ} {head : Head} {room : BlockerRoom} {cases symbols : 
         pends : subset (head .initial) case ≡ false
             → LeavesPending run (countedOf run 6 (run .pending + 1)) (record { case = case; symbol = symbol .0 } ∷ pendingFirst cases symbols (run .pending)) r
             cases symbols cases′ symbols′
-            → stage room cases′ symbols′ r ≡ madeBy (step (systemOf image) (hintsOf image hints)) (stage room cases symbols run)
+            → stage room cases′ symbols′ r ≡ madeBy (step (systemOf image) (choicesOf image hints way)) (stage room cases symbols run)
         unfolding madeBy judge extendStep casesIn symbolsIn recordOf numberOf pendingOf S c table here X lowest rest
         pends outside leaves =
             let now-pending : List Pending = record { case = S .backward (symbol .0) X; symbol = symbol .0 } ∷ lowest ∷ rest in
@@ -173,12 +174,12 @@ module _ {image : List ℕ} {head : Head} {room : BlockerRoom} {cases symbols : 
 
         pub work-extends : Extended (subset (head .initial) case) run (record { case = case; symbol = symbol .0 }) (pendingFirst cases symbols (run .pending)) r
             cases symbols cases′ symbols′
-            → stage room cases′ symbols′ r ≡ madeBy (step (systemOf image) (hintsOf image hints)) (stage room cases symbols run)
+            → stage room cases′ symbols′ r ≡ madeBy (step (systemOf image) (choicesOf image hints way)) (stage room cases symbols run)
         work-extends = at (subset (head .initial) case) refl
           where
             at : (b : Bool) → subset (head .initial) case ≡ b
                 → Extended b run (record { case = case; symbol = symbol .0 }) (pendingFirst cases symbols (run .pending)) r cases symbols cases′ symbols′
-                → stage room cases′ symbols′ r ≡ madeBy (step (systemOf image) (hintsOf image hints)) (stage room cases symbols run)
+                → stage room cases′ symbols′ r ≡ madeBy (step (systemOf image) (choicesOf image hints way)) (stage room cases symbols run)
             at true e leaves = finds e leaves
             at false e leaves = pends e leaves
 

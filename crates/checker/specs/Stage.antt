@@ -18,12 +18,12 @@ use Rattle.checker.specs.declared.record.Run.{Run}
 abbrev pub lentOf : BlockerRoom → List ℕ → List ℕ → Lent
 lentOf room cases symbols = record { room = room; cases = cases; symbols = symbols }
 
-abbrev pub termsOf : List ℕ → ℕ → ℕ → Terms
-termsOf hints allowance edition = record { hints = hints; allowance = allowance; edition = edition }
+abbrev pub termsOf : List ℕ → ℕ → ℕ → ℕ → Terms
+termsOf hints allowance edition way = record { hints = hints; allowance = allowance; edition = edition; way = way }
 
--- what a step is given whose allowance was tested: it looks at the hints alone
-abbrev pub hintsOf : List ℕ → List ℕ → Given
-hintsOf image hints = stepGiven image hints 0
+-- what a step is given whose allowance was tested: it looks at the hints and the way alone
+abbrev pub choicesOf : List ℕ → List ℕ → ℕ → Given
+choicesOf image hints way = stepGiven image hints 0 way
 
 -- the struct as the machine's record
 abbrev pub recordIn : Run → RunRecord
@@ -47,9 +47,9 @@ unfoldable pub madeBy : (Configuration → Step) → Stage → Stage
 madeBy make at = after at (judge (roomsOf (at .tables)) (configurationOf at) (make (configurationOf at)))
 
 -- the block of the lowest pending case X, which is one level above `below`; the cases above it are `rest`
-unfoldable pub blockOf : List ℕ → List ℕ → List Pending → ℕ → ℕ → Configuration → Step
-blockOf image hints rest below X c =
-    blockStep (initialOf image) (finalOf image ∷ []) c rest below (chosen (systemOf image) (hintsOf image hints) c below X)
+unfoldable pub blockOf : List ℕ → List ℕ → ℕ → List Pending → ℕ → ℕ → Configuration → Step
+blockOf image hints way rest below X c =
+    blockStep (initialOf image) (finalOf image ∷ []) c rest below (chosen (systemOf image) (choicesOf image hints way) c below X)
 
 -- What a step needs of the tables and the record: the places in use are there, the rooms' tables are of one length and have at most 65,536 places, no
 -- more cases are pending than there are levels, and no more blocks or hints accepted than steps.

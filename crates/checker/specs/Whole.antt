@@ -4,9 +4,9 @@ use mathlib.Core.Path.{_≡_}
 use mathlib.Core.List.{List}
 use lib.ListN.{length}
 use Rattle.automata.specs.declared.image.Head.{Head}
+use Rattle.automata.specs.Answers.{ReadAs}
 use Rattle.machine.specs.Lent.{BlockerRoom, EvenRoom}
 use Rattle.machine.specs.Runs.{Lent, zeroed, Terms, Result, roomsOf, resultOf, endOf}
-use Rattle.choices.specs.Found.{ReadAs}
 use Rattle.checker.specs.Stage.{lentOf}
 use Rattle.checker.specs.declared.record.Run.{Run}
 use Rattle.checker.specs.declared.run.Counts.{Counts}

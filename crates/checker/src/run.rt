@@ -8,7 +8,9 @@ ghost use mathlib.Core.Path.{_≡_};
 ghost use mathlib.Core.List.{[], _∷_};
 ghost use Rattle.machine.specs.Machine.{start};
 ghost use Rattle.machine.specs.Lent.{roomOf};
-ghost use Rattle.machine.specs.Runs.{checkTerms, runOf};
+ghost use Rattle.automata.specs.Image.{check};
+ghost use Rattle.automata.specs.Answers.{ReadAs};
+ghost use Rattle.machine.specs.Runs.{unknownWay, checkTerms, runOf};
 ghost use Rattle.machine.specs.Records.{recordOf};
 ghost use Rattle.checker.specs.Stage.{lentOf, termsOf, recordIn};
 ghost use Rattle.checker.specs.Whole.{Checked, Cleared, Runnable, countsIn, resultWith, machineResult};
@@ -70,8 +72,19 @@ fn clear(
     pending::clear(cases, symbols, cases.len());
 }
 
+// 0, or 37 where the way is neither 0 nor 1.
+fn check_way(way: u64) -> u64
+    ensures { λ r. ⌜ r ≡ check (unknownWay way) 37 0 ⌝ }
+{
+    match way {
+        0 => 0,
+        1 => 0,
+        _ => 37,
+    }
+}
+
 // 0, or 30 where the tables of one room differ in length, or 31 where a room or the hint table has over 65,536 places, or 36 where the edition is
-// neither 1 nor 2.
+// neither 1 nor 2, or 37 by the way.
 fn check_terms(
     masks: &[u64],
     levels: &[u32],
@@ -80,8 +93,9 @@ fn check_terms(
     symbols: &[u8],
     hints: &[u64],
     edition: u64,
+    way: u64,
 ) -> u64
-    ensures { λ r. ⌜ r ≡ checkTerms (lentOf (roomOf (now (masks .entry)) (now (levels .entry)) (now (entered .entry))) (now (cases .entry)) (now (symbols .entry))) (now (hints .entry)) edition 0 ⌝ }
+    ensures { λ r. ⌜ r ≡ checkTerms (lentOf (roomOf (now (masks .entry)) (now (levels .entry)) (now (entered .entry))) (now (cases .entry)) (now (symbols .entry))) (now (hints .entry)) edition way 0 ⌝ }
 {
     if masks.len() != levels.len() {
         return 30;
@@ -102,8 +116,8 @@ fn check_terms(
         return 31;
     }
     match edition {
-        1 => 0,
-        2 => 0,
+        1 => check_way(way),
+        2 => check_way(way),
         _ => 36,
     }
 }
@@ -134,10 +148,11 @@ fn drive(
     hints: &[u64],
     allowance: u64,
     edition: u64,
+    way: u64,
 ) -> Counts
     requires { ⌜ Runnable (now image) head (roomOf (now masks) (now levels) (now entered)) (now cases) (now symbols) × Cleared (roomOf (now masks) (now levels) (now entered)) (now cases) (now symbols) (roomOf (now masks) (now levels) (now entered)) (now cases) (now symbols) ⌝ }
     ensures { λ r. ⌜ resultWith r (roomOf (now (masks .exit)) (now (levels .exit)) (now (entered .exit))) (now (cases .exit)) (now (symbols .exit))
-        ≡ machineResult (now (image .entry)) (lentOf (roomOf (now (masks .entry)) (now (levels .entry)) (now (entered .entry))) (now (cases .entry)) (now (symbols .entry))) (termsOf (now (hints .entry)) allowance edition) ⌝ }
+        ≡ machineResult (now (image .entry)) (lentOf (roomOf (now (masks .entry)) (now (levels .entry)) (now (entered .entry))) (now (cases .entry)) (now (symbols .entry))) (termsOf (now (hints .entry)) allowance edition way) ⌝ }
 {
     let mut run = begin(head, edition);
     while run.answer == 6 {
@@ -152,6 +167,7 @@ fn drive(
             hints,
             run,
             allowance,
+            way,
         );
     }
     count_up(run)
@@ -169,10 +185,11 @@ fn go(
     hints: &[u64],
     allowance: u64,
     edition: u64,
+    way: u64,
 ) -> Counts
     requires { ⌜ Runnable (now image) head (roomOf (now masks) (now levels) (now entered)) (now cases) (now symbols) ⌝ }
     ensures { λ r. ⌜ resultWith r (roomOf (now (masks .exit)) (now (levels .exit)) (now (entered .exit))) (now (cases .exit)) (now (symbols .exit))
-        ≡ machineResult (now (image .entry)) (lentOf (roomOf (now (masks .entry)) (now (levels .entry)) (now (entered .entry))) (now (cases .entry)) (now (symbols .entry))) (termsOf (now (hints .entry)) allowance edition) ⌝ }
+        ≡ machineResult (now (image .entry)) (lentOf (roomOf (now (masks .entry)) (now (levels .entry)) (now (entered .entry))) (now (cases .entry)) (now (symbols .entry))) (termsOf (now (hints .entry)) allowance edition way) ⌝ }
 {
     clear(masks, levels, entered, cases, symbols);
     drive(
@@ -186,6 +203,44 @@ fn go(
         hints,
         allowance,
         edition,
+        way,
+    )
+}
+
+// The run on a valid image: refused where the rooms or the terms are, else it goes.
+fn run_read(
+    image: &[u8],
+    head: Head,
+    masks: &mut [u64],
+    levels: &mut [u32],
+    entered: &mut [u64],
+    cases: &mut [u64],
+    symbols: &mut [u8],
+    hints: &[u64],
+    allowance: u64,
+    edition: u64,
+    way: u64,
+) -> Counts
+    requires { ⌜ ReadAs (now image) head ⌝ }
+    ensures { λ r. ⌜ resultWith r (roomOf (now (masks .exit)) (now (levels .exit)) (now (entered .exit))) (now (cases .exit)) (now (symbols .exit))
+        ≡ runOf (now (image .entry)) (lentOf (roomOf (now (masks .entry)) (now (levels .entry)) (now (entered .entry))) (now (cases .entry)) (now (symbols .entry))) (termsOf (now (hints .entry)) allowance edition way) ⌝ }
+{
+    let number = check_terms(masks, levels, entered, cases, symbols, hints, edition, way);
+    if number != 0 {
+        return refuse(number);
+    }
+    go(
+        image,
+        head,
+        masks,
+        levels,
+        entered,
+        cases,
+        symbols,
+        hints,
+        allowance,
+        edition,
+        way,
     )
 }
 
@@ -200,29 +255,25 @@ pub fn run(
     hints: &[u64],
     allowance: u64,
     edition: u64,
+    way: u64,
 ) -> Counts
     ensures { λ r. ⌜ resultWith r (roomOf (now (masks .exit)) (now (levels .exit)) (now (entered .exit))) (now (cases .exit)) (now (symbols .exit))
-        ≡ runOf (now (image .entry)) (lentOf (roomOf (now (masks .entry)) (now (levels .entry)) (now (entered .entry))) (now (cases .entry)) (now (symbols .entry))) (termsOf (now (hints .entry)) allowance edition) ⌝ }
+        ≡ runOf (now (image .entry)) (lentOf (roomOf (now (masks .entry)) (now (levels .entry)) (now (entered .entry))) (now (cases .entry)) (now (symbols .entry))) (termsOf (now (hints .entry)) allowance edition way) ⌝ }
 {
     match automata::image::read_image(image) {
         Image::Refused(number) => refuse(number as u64),
-        Image::Valid(head) => {
-            let number = check_terms(masks, levels, entered, cases, symbols, hints, edition);
-            if number != 0 {
-                return refuse(number);
-            }
-            go(
-                image,
-                head,
-                masks,
-                levels,
-                entered,
-                cases,
-                symbols,
-                hints,
-                allowance,
-                edition,
-            )
-        }
+        Image::Valid(head) => run_read(
+            image,
+            head,
+            masks,
+            levels,
+            entered,
+            cases,
+            symbols,
+            hints,
+            allowance,
+            edition,
+            way,
+        ),
     }
 }

@@ -14,14 +14,15 @@ ghost use lib.Dec.{ltb};
 ghost use lib.ListN.{length};
 ghost use Rattle.lists.specs.Tests.{choose};
 ghost use Rattle.masks.specs.Sets.{subset as isSubset};
+ghost use Rattle.automata.specs.Answers.{ReadAs};
 ghost use Rattle.machine.specs.Machine.{finalPending, pendingAfter, blockStep, wordOf, step as machineStep};
 ghost use Rattle.machine.specs.Lent.{roomOf, unstampedRoom, blockersFrom, blockersIn, pendingFirst};
 ghost use Rattle.machine.specs.Runs.{systemOf, stepGiven};
 ghost use Rattle.machine.specs.Records.{stepOf};
 ghost use Rattle.blockers.specs.Room.{Holds, HoldsRoom};
-ghost use Rattle.choices.specs.Found.{ReadAs, choiceOf};
+ghost use Rattle.choices.specs.Found.{choiceOf};
 ghost use Rattle.pending.specs.Room.{Holds as HoldsWord};
-ghost use Rattle.checker.specs.Stage.{stage, hintsOf, madeBy, blockOf, Ready, leftOf, countedOf, Leaves, LeavesPending, Opened, Unpends, Extended, ClosesLevel, Pends, Countable};
+ghost use Rattle.checker.specs.Stage.{stage, choicesOf, madeBy, blockOf, Ready, leftOf, countedOf, Leaves, LeavesPending, Opened, Unpends, Extended, ClosesLevel, Pends, Countable};
 
 // The run ends without a verdict, under the number of what it lacks: nothing stays pending.
 fn stop(cases: &mut [u64], symbols: &mut [u8], run: Run, number: u8) -> Run
@@ -223,13 +224,14 @@ fn block(
     cases: &mut [u64],
     symbols: &mut [u8],
     hints: &[u64],
+    way: u64,
     run: Run,
     below: Level,
     x: u64,
 ) -> Run
     requires { ⌜ ReadAs (now image) head × Ready (stage (roomOf (now masks) (now levels) (now entered)) (now cases) (now symbols) run) × (1 ≤ run .pending) × (below .0 < 65536) × (run .steps < 18446744073709551615) ⌝ }
     ensures { λ r. ⌜ stage (roomOf (now (masks .exit)) (now (levels .exit)) (now (entered .exit))) (now (cases .exit)) (now (symbols .exit)) r
-        ≡ madeBy (blockOf (now (image .entry)) (now (hints .entry)) (pendingFirst (now (cases .entry)) (now (symbols .entry)) (run .pending - 1)) (below .0) x)
+        ≡ madeBy (blockOf (now (image .entry)) (now (hints .entry)) way (pendingFirst (now (cases .entry)) (now (symbols .entry)) (run .pending - 1)) (below .0) x)
         (stage (roomOf (now (masks .entry)) (now (levels .entry)) (now (entered .entry))) (now (cases .entry)) (now (symbols .entry)) run) ⌝ }
 {
     let held = run.held;
@@ -242,6 +244,7 @@ fn block(
         x,
         hints,
         run.blocks,
+        way,
     );
     enter(
         head,
@@ -266,11 +269,12 @@ fn work(
     cases: &mut [u64],
     symbols: &mut [u8],
     hints: &[u64],
+    way: u64,
     run: Run,
 ) -> Run
     requires { ⌜ ReadAs (now image) head × Ready (stage (roomOf (now masks) (now levels) (now entered)) (now cases) (now symbols) run) × (1 ≤ run .pending) × (run .steps < 18446744073709551615) ⌝ }
     ensures { λ r. ⌜ stage (roomOf (now (masks .exit)) (now (levels .exit)) (now (entered .exit))) (now (cases .exit)) (now (symbols .exit)) r
-        ≡ madeBy (machineStep (systemOf (now (image .entry))) (hintsOf (now (image .entry)) (now (hints .entry))))
+        ≡ madeBy (machineStep (systemOf (now (image .entry))) (choicesOf (now (image .entry)) (now (hints .entry)) way))
         (stage (roomOf (now (masks .entry)) (now (levels .entry)) (now (entered .entry))) (now (cases .entry)) (now (symbols .entry)) run) ⌝ }
 {
     let x = cases[run.pending - 1];
@@ -287,6 +291,7 @@ fn work(
             cases,
             symbols,
             hints,
+            way,
             run,
             below,
             x,
@@ -335,10 +340,11 @@ pub(crate) fn step(
     hints: &[u64],
     run: Run,
     allowance: u64,
+    way: u64,
 ) -> Run
     requires { ⌜ ReadAs (now image) head × Ready (stage (roomOf (now masks) (now levels) (now entered)) (now cases) (now symbols) run) ⌝ }
     ensures { λ r. ⌜ stage (roomOf (now (masks .exit)) (now (levels .exit)) (now (entered .exit))) (now (cases .exit)) (now (symbols .exit)) r
-        ≡ stepOf (now (image .entry)) (stepGiven (now (image .entry)) (now (hints .entry)) allowance) (stage (roomOf (now (masks .entry)) (now (levels .entry)) (now (entered .entry))) (now (cases .entry)) (now (symbols .entry)) run) ⌝ }
+        ≡ stepOf (now (image .entry)) (stepGiven (now (image .entry)) (now (hints .entry)) allowance way) (stage (roomOf (now (masks .entry)) (now (levels .entry)) (now (entered .entry))) (now (cases .entry)) (now (symbols .entry)) run) ⌝ }
 {
     if allowance <= run.steps {
         return stop(cases, symbols, run, 2);
@@ -353,6 +359,7 @@ pub(crate) fn step(
             cases,
             symbols,
             hints,
+            way,
             run,
         );
     }

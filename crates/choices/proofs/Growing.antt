@@ -1,4 +1,4 @@
--- The set that blocks a case: what the walk over the states has gathered, and whether a hint is taken. Assumes nothing.
+-- The set that blocks a case: what the walk over the states has gathered, the ways to grow, and whether a hint is taken. Assumes nothing.
 use Prim.Native.Nat.{ℕ, zero, suc, _+_, _-_, _≤_, _<_}
 use mathlib.Core.Path.{_≡_, refl, sym, ap, _∙_}
 use mathlib.Core.Bool.{Bool, true, false}
@@ -11,12 +11,13 @@ use lib.ListN.{length, getD}
 use Rattle.lists.specs.Tests.{_and_, neg, choose}
 use Rattle.masks.specs.Sets.{member, union, single}
 use Rattle.automata.specs.declared.image.Head.{Head}
+use Rattle.automata.specs.Answers.{ReadAs}
+use Rattle.automata.proofs.Reading.{head-states, states-fit}
 use Rattle.machine.specs.System.{System}
 use Rattle.machine.specs.Machine.{Blocker, passes, Growth, withState, withStates, byStates, hintAt, chosenFrom}
 use Rattle.machine.specs.Machine as Machine
 use Rattle.machine.specs.Runs.{systemOf}
-use Rattle.choices.specs.Found.{ReadAs}
-use Rattle.choices.proofs.Blocking.{head-states, states-fit}
+use Rattle.machine.specs.Hitting.{RowSource, byHittingSet, growthOf}
 
 -- one state
 module _ (S : System) (table : List Blocker) (below X q Y : ℕ) (there : Bool) (test : there ≡ member q X) where
@@ -63,6 +64,17 @@ module _ {image : List ℕ} {table : List Blocker} {below X states q Y : ℕ} (t
   pub states-end : states ≤ q → Y ≡ byStates (systemOf image) table below X
   unfolding withStates
   states-end l = let c : states - q ≡ 0 = omega arith in rw c at (tried .left)
+
+-- what a case grows to by the way
+module _ (S : System) (rows : RowSource) (table : List Blocker) (below X grown : ℕ) where
+  pub way-first : (way : ℕ) → way ≡ 0 → grown ≡ byStates S table below X → grown ≡ growthOf way S rows table below X
+  unfolding growthOf
+  way-first way z e = e ∙ sym (rw z)
+
+  pub way-second : (way : ℕ) → (way ≡ 0 → ⊥) → grown ≡ byHittingSet S rows table below X → grown ≡ growthOf way S rows table below X
+  unfolding growthOf
+  way-second zero n e = absurd (n refl)
+  way-second (suc way) n e = e
 
 -- the hint of a number, by the length of their list
 hint-there : (hints : List ℕ) (t : ℕ) → t < length hints → hintAt hints t ≡ some (getD hints t 0)

@@ -11,6 +11,8 @@ use Rattle.masks.specs.Sets.{subset, within}
 use Rattle.automata.specs.Image.{statesOf, symbolsOf, initialOf, rowsOf}
 use Rattle.automata.specs.Automaton.{backward}
 use Rattle.automata.specs.declared.image.Head.{Head}
+use Rattle.automata.specs.Answers.{ReadAs}
+use Rattle.automata.proofs.Reading.{head-states, head-initial, initial-narrow}
 use Rattle.machine.specs.System.{System}
 use Rattle.machine.specs.Machine.{Blocker, blocked, settled, passes, rises}
 use Rattle.machine.specs.Why.{why, isReason}
@@ -18,8 +20,6 @@ use Rattle.machine.specs.Runs.{systemOf}
 use Rattle.blockers.specs.Answers.{reasonOf}
 use Rattle.blockers.specs.declared.reasons.Reason.{Reason}
 use Rattle.blockers.proofs.WhyBlocked.{blocked-told}
-use Rattle.choices.specs.Found.{ReadAs}
-use Rattle.choices.proofs.Blocking.{head-states, head-initial, initial-narrow}
 use Rattle.choices.proofs.Symbols.{EachTried, each-goes, each-fails, each-ends}
 
 -- joined tests fail where one of them does

@@ -16,6 +16,8 @@ use Rattle.masks.specs.Sets.{subset, lowestAbsent}
 use Rattle.automata.specs.Image.{symbolsOf, initialOf, rowsOf}
 use Rattle.automata.specs.Automaton.{backward}
 use Rattle.automata.specs.declared.image.Head.{Head}
+use Rattle.automata.specs.Answers.{ReadAs}
+use Rattle.automata.proofs.Reading.{head-symbols, head-initial, initial-narrow}
 use Rattle.machine.specs.Machine.{settled, qualifies}
 use Rattle.machine.specs.Lent.{blockerAt, unstampedRoom, blockersIn}
 use Rattle.machine.specs.Why.{firstCovering, absentReason, why, isReason}
@@ -25,10 +27,10 @@ use Rattle.blockers.specs.declared.reasons.Reason.{Reason}
 use Rattle.blockers.specs.declared.reasons.Reason.the-variants.{Nothing as NoReason}
 use Rattle.blockers.proofs.Walks.{Walked, walk-starts, walk-finds, walk-goes, walk-ends}
 use Rattle.blockers.proofs.WhyBlocked.{why-bottom, why-above}
-use Rattle.choices.specs.Found.{ReadAs, foundOf}
+use Rattle.choices.specs.Found.{foundOf}
 use Rattle.choices.specs.declared.Found.{Found}
 use Rattle.choices.specs.declared.Found.the-variants.{At, Nothing}
-use Rattle.choices.proofs.Blocking.{settled-inside, settled-told, head-symbols, head-initial, initial-narrow}
+use Rattle.choices.proofs.Blocking.{settled-inside, settled-told}
 
 -- whether a symbol can extend X, and the first that can
 abbrev extending : List ℕ → List ℕ → List ℕ → ℕ → ℕ → ℕ → Bool

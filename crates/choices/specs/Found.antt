@@ -1,21 +1,11 @@
--- What the choices are made from, and what they answer. Assumes nothing: these are definitions.
+-- What the choices answer. Assumes nothing: these are definitions.
 use Prim.Native.Nat.{ℕ}
-use mathlib.Core.Path.{_≡_}
-use mathlib.Core.List.{List}
 use mathlib.Core.Option.{Option, none, some}
-use Rattle.automata.specs.Image.{Valid}
-use Rattle.automata.specs.Answers.{headOf}
-use Rattle.automata.specs.declared.image.Head.{Head}
 use Rattle.machine.specs.System.{System}
 use Rattle.machine.specs.Machine as Machine
 use Rattle.choices.specs.declared.Found.{Found}
 use Rattle.choices.specs.declared.Found.the-variants.{At, Nothing}
 use Rattle.choices.specs.declared.Choice.{Choice}
-
--- an image that no check refuses, with its head
-pub record ReadAs (image : List ℕ) (head : Head) : Type 0 where
-  pub valid : Valid image
-  pub read : head ≡ headOf image
 
 -- the symbol with its backward set, or that there is none
 unfoldable pub foundOf : System → ℕ → Option ℕ → Found

@@ -10,12 +10,14 @@ ghost use mathlib.Core.Path.{_≡_};
 ghost use Prim.Native.Nat.{_<_};
 ghost use lib.ListN.{length};
 ghost use Rattle.lists.specs.Lists.{firstFrom};
-ghost use Rattle.automata.specs.Image.{symbolsOf};
+ghost use Rattle.automata.specs.Image.{symbolsOf, rowsOf};
+ghost use Rattle.automata.specs.Answers.{ReadAs};
 ghost use Rattle.machine.specs.Machine.{settled as isSettled, qualifies, passes as passesTest, withState, byStates};
 ghost use Rattle.machine.specs.Machine.{chosenFrom, hintAt, rises as risesTest};
 ghost use Rattle.machine.specs.Lent.{blockerAt, unstampedRoom, blockersIn};
 ghost use Rattle.machine.specs.Runs.{systemOf};
-ghost use Rattle.choices.specs.Found.{ReadAs, foundOf, choiceOf};
+ghost use Rattle.machine.specs.Hitting.{growthOf};
+ghost use Rattle.choices.specs.Found.{foundOf, choiceOf};
 
 // The first symbol whose backward set of x is neither inside x nor blocked one level below, with that set; or that there is none.
 pub enum Found {
@@ -134,8 +136,8 @@ fn with_state(
     y
 }
 
-// The set that x grows to, as what blocks it one level above `below`.
-fn grow(image: &[u8], head: Head, masks: &[u64], levels: &[u32], below: Level, x: u64) -> u64
+// The set that x grows to by its states, as what blocks it one level above `below`.
+fn by_states(image: &[u8], head: Head, masks: &[u64], levels: &[u32], below: Level, x: u64) -> u64
     requires { ⌜ ReadAs (now image) head ⌝ }
     ensures { λ r. ⌜ r ≡ byStates (systemOf (now (image .entry))) (blockersIn (now (masks .entry)) (now (levels .entry))) (below .0) x ⌝ }
 {
@@ -148,7 +150,27 @@ fn grow(image: &[u8], head: Head, masks: &[u64], levels: &[u32], below: Level, x
     y
 }
 
-// The set that blocks x after this many blocks: the hint of that number where it exists and passes, else what x grows to.
+// The set that x grows to by the way: 0 by its states, else through a hitting set.
+fn grow(
+    image: &[u8],
+    head: Head,
+    masks: &[u64],
+    levels: &[u32],
+    below: Level,
+    x: u64,
+    way: u64,
+) -> u64
+    requires { ⌜ ReadAs (now image) head ⌝ }
+    ensures { λ r. ⌜ r ≡ growthOf way (systemOf (now (image .entry))) (rowsOf (now (image .entry)))
+        (blockersIn (now (masks .entry)) (now (levels .entry))) (below .0) x ⌝ }
+{
+    if way == 0 {
+        return by_states(image, head, masks, levels, below, x);
+    }
+    hitting::grow(image, head, masks, levels, below, x)
+}
+
+// The set that blocks x after this many blocks: the hint of that number where it exists and passes, else what x grows to by the way.
 pub fn choose_set(
     image: &[u8],
     head: Head,
@@ -158,14 +180,15 @@ pub fn choose_set(
     x: u64,
     hints: &[u64],
     blocks: u64,
+    way: u64,
 ) -> Choice
     requires { ⌜ ReadAs (now image) head ⌝ }
-    ensures { λ r. ⌜ choiceOf r ≡ chosenFrom (systemOf (now (image .entry))) (byStates (systemOf (now (image .entry))))
+    ensures { λ r. ⌜ choiceOf r ≡ chosenFrom (systemOf (now (image .entry))) (growthOf way (systemOf (now (image .entry))) (rowsOf (now (image .entry))))
         (blockersIn (now (masks .entry)) (now (levels .entry))) (below .0) x (hintAt (now (hints .entry)) blocks) ⌝ }
 {
     let number = blocks as usize;
     if hints.len() <= number {
-        let mask = grow(image, head, masks, levels, below, x);
+        let mask = grow(image, head, masks, levels, below, x, way);
         return Choice { mask, hinted: 0 };
     }
     let hint = hints[number];
@@ -175,7 +198,7 @@ pub fn choose_set(
             hinted: 1,
         };
     }
-    let mask = grow(image, head, masks, levels, below, x);
+    let mask = grow(image, head, masks, levels, below, x, way);
     Choice { mask, hinted: 0 }
 }
 

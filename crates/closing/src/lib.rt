@@ -6,10 +6,10 @@ ghost use Prim.Native.Nat.{_<_};
 ghost use lib.Dec.{eqb};
 ghost use Rattle.lists.specs.Tests.{neg};
 ghost use Rattle.lists.specs.Lists.{any, firstFrom};
+ghost use Rattle.automata.specs.Answers.{ReadAs};
 ghost use Rattle.machine.specs.Lent.{roomOf};
 ghost use Rattle.blockers.specs.Room.{HoldsRoom, tableOf};
 ghost use Rattle.machine.specs.Runs.{systemOf};
-ghost use Rattle.choices.specs.Found.{ReadAs};
 ghost use Rattle.closing.specs.Close.{risenAt, risenBy, lowestOf, Becomes, Closes};
 
 // The lowest level that holds no blocker, or that there is none.

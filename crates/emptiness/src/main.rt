@@ -107,6 +107,7 @@ fn main() {
         &hints,
         100000,
         1,
+        0,
     );
     print_counts(counts);
     print_tables(counts, &masks, &symbols);

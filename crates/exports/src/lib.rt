@@ -69,10 +69,11 @@ pub extern "C" fn afa_run(
     hints: &[u64],
     allowance: u64,
     edition: u64,
+    way: u64,
     counts: &mut [u64; 4],
 ) -> u64
     ensures { λ r. ⌜ Ran r (now (counts .exit)) (roomOf (now (masks .exit)) (now (levels .exit)) (now (entered .exit))) (now (cases .exit)) (now (symbols .exit))
-        (runOf (now (image .entry)) (lentOf (roomOf (now (masks .entry)) (now (levels .entry)) (now (entered .entry))) (now (cases .entry)) (now (symbols .entry))) (termsOf (now (hints .entry)) allowance edition)) ⌝ }
+        (runOf (now (image .entry)) (lentOf (roomOf (now (masks .entry)) (now (levels .entry)) (now (entered .entry))) (now (cases .entry)) (now (symbols .entry))) (termsOf (now (hints .entry)) allowance edition way)) ⌝ }
 {
     let made = checker::run::run(
         image,
@@ -84,6 +85,7 @@ pub extern "C" fn afa_run(
         hints,
         allowance,
         edition,
+        way,
     );
     *counts = [
         made.steps,

@@ -1,8 +1,9 @@
--- Counting: sums of a function below a bound, lengths after keeping, and two counts of a list by a number of each element. Assumes nothing.
+-- Counting: sums of a function below a bound, lengths after keeping, two counts of a list by a number of each element, and lists of different numbers.
+-- Assumes nothing.
 use Prim.Native.Nat.{ℕ, zero, suc, _+_, _*_, _≤_, _<_}
-use mathlib.Core.Path.{_≡_, refl, sym, ap, _∙_}
+use mathlib.Core.Path.{_≡_, refl, sym, ap, subst, _∙_}
 use mathlib.Core.Bool.{Bool, true, false}
-use mathlib.Core.List.{List, [], _∷_}
+use mathlib.Core.List.{List, [], _∷_, _++_}
 use mathlib.Core.Logic.{_⊎_, inl, inr, _≢_}
 use native.Mathlib.Decide.{ℕ-discrete}
 use native.Mathlib.Omega.{arith}
@@ -10,9 +11,9 @@ use lib.Dec.{T, eqb, eqb→eq, eqb-refl}
 use lib.ListN.{length}
 use Rattle.lists.specs.Tests.{neg, choose}
 use Rattle.lists.specs.Lists.{_∈_, here, there, Each, keep}
-use Rattle.lists.proofs.Tests.{holds, fails, neg-fails, fails-neg, neg-neg}
-use Rattle.lists.proofs.Lists.{in-none, in-cases, Some, keep-in, in-keep, keep-length}
-use Rattle.lists.proofs.Pairs.{Pairwise, pairs-first, pairs-later, pairs-keep}
+use Rattle.lists.proofs.Tests.{holds, fails, neg-fails, fails-neg, neg-neg, choose-either}
+use Rattle.lists.proofs.Lists.{in-none, in-cases, in-length, Some, keep-in, in-keep, keep-length}
+use Rattle.lists.proofs.Pairs.{Pairwise, nil, cons, pairs-first, pairs-later, pairs-keep, pairs-joined}
 
 -- a test as a number
 unfoldable pub bit : Bool → ℕ
@@ -90,6 +91,19 @@ module _ {A : Type 0} where
       at rec true q (inr k) = omega (arith, rec k)
       at rec false q c = omega (arith, keep-length test l)
 
+  -- something is kept exactly if some element has the test
+  pub kept-some : (test : A → Bool) (l : List A) → 1 ≤ length (keep test l) → Some test l
+  kept-some test l h = at (keep test l) refl h
+    where
+      at : (kept : List A) → keep test l ≡ kept → 1 ≤ length kept → Some test l
+      at [] e k = absurd (omega arith)
+      at (x ∷ kept) e k =
+          let r = keep-in test l (subst (λ (found : List A). x ∈ found) (sym e) (here refl)) in
+          record { element = x; listed = r .0; passes = r .1 }
+
+  pub some-kept : (test : A → Bool) (l : List A) {x : A} → x ∈ l → T (test x) → 1 ≤ length (keep test l)
+  some-kept test l m t = in-length (in-keep test l m t)
+
   -- all is kept where each has the test
   pub keep-all : (test : A → Bool) (l : List A) → Each (λ x. T (test x)) l → keep test l ≡ l
   unfolding keep choose
@@ -155,3 +169,43 @@ module _ {A : Type 0} where
             let r = h j a (omega arith) in
             let differs : number (r .element) ≢ suc N = omega (arith, eqb→eq (number (r .element)) j (r .passes)) in
             record { element = r .element; listed = in-keep (other (suc N)) l (r .listed) (means-other (suc N) (r .element) differs); passes = r .passes }
+
+-- each two numbers of the list differ
+abbrev pub Distinct : List ℕ → Type 0
+Distinct = Pairwise (λ a b. a ≢ b)
+
+-- a number more at the end
+pub distinct-more : {l : List ℕ} {x : ℕ} → Distinct l → (x ∈ l → ⊥) → Distinct (l ++ x ∷ [])
+distinct-more {l} {x} h new = pairs-joined h (cons (λ y m. absurd (in-none m)) nil) (λ y z m k. at m (in-cases k))
+  where
+    at : {y z : ℕ} → y ∈ l → (z ≡ x) ⊎ z ∈ [] → y ≢ z
+    at m (inl e) same = new (subst (λ (y : ℕ). y ∈ l) (same ∙ e) m)
+    at m (inr k) same = in-none k
+
+-- a number of such a list stands in it once
+pub distinct-once : (x : ℕ) {l : List ℕ} → Distinct l → x ∈ l → length (keep (eqb x) l) ≡ 1
+unfolding keep
+distinct-once x nil m = absurd (in-none m)
+distinct-once x (cons {x = y} {l = l} f h) m =
+    choose-either (λ (kept : List ℕ). length kept ≡ 1) (eqb x y) (λ t. omega (arith, nowhere (eqb→eq x y (holds t))))
+    (λ n. later (λ k. distinct-once x h k) (fails n) (in-cases m))
+  where
+    nowhere : x ≡ y → 1 ≤ length (keep (eqb x) l) → ⊥
+    nowhere e k = let r = kept-some (eqb x) l k in f (r .element) (r .listed) (sym e ∙ eqb→eq x (r .element) (r .passes))
+
+    later : (x ∈ l → length (keep (eqb x) l) ≡ 1) → (T (eqb x y) → ⊥) → (x ≡ y) ⊎ x ∈ l → length (keep (eqb x) l) ≡ 1
+    later rec n (inl e) = absurd (n (subst (λ (z : ℕ). T (eqb x z)) e (eqb-refl x)))
+    later rec n (inr k) = rec k
+
+-- such a list has no more numbers than any that has them all
+pub distinct-few : {l : List ℕ} (all : List ℕ) → Distinct l → Each (λ x. x ∈ all) l → length l ≤ length all
+distinct-few all nil f = omega arith
+distinct-few all (cons {x = x} {l = l} g h) f =
+    omega (
+      arith,
+      distinct-few (keep others all) h (λ y m. in-keep others all (f y (there m)) (fails-neg _ (λ t. g y m (eqb→eq x y t)))),
+      keep-shorter others all x (f x (here refl)) (λ t. neg-fails _ t (eqb-refl x)),
+    )
+  where
+    others : ℕ → Bool
+    others y = neg (eqb x y)

@@ -23,6 +23,10 @@ module _ {A : Type 0} where
   in-cases (here e) = inl e
   in-cases (there m) = inr m
 
+  pub in-length : {x : A} {l : List A} → x ∈ l → 1 ≤ length l
+  in-length (here e) = omega arith
+  in-length (there m) = omega arith
+
   -- ++
   pub in-left : {x : A} {a : List A} (b : List A) → x ∈ a → x ∈ (a ++ b)
   in-left b (here e) = here e
@@ -75,6 +79,11 @@ module _ {A : Type 0} where
   pub each-more : {P : A → Type 0} {x : A} {l : List A} → P x → Each P l → Each P (x ∷ l)
   each-more p f y (here e) = rw e p
   each-more p f y (there m) = f y m
+
+  -- of two lists joined
+  pub each-joined : {P : A → Type 0} (a : List A) {b : List A} → Each P a → Each P b → Each P (a ++ b)
+  each-joined [] f g = g
+  each-joined (x ∷ a) f g = each-more (f x (here refl)) (each-joined a (λ y m. f y (there m)) g)
 
   -- any: the test holds of an element of the list
   pub record Some (test : A → Bool) (l : List A) : Type 0 where

@@ -102,3 +102,9 @@ choose-true x y e = rw e
 pub choose-false : {A : Type 0} {b : Bool} (x y : A) → b ≡ false → choose b x y ≡ y
 unfolding choose
 choose-false x y e = rw e
+
+-- what holds of each of the two where it is chosen holds of the choice
+pub choose-either : {A : Type 0} (P : A → Type 0) (b : Bool) {x y : A} → (b ≡ true → P x) → (b ≡ false → P y) → P (choose b x y)
+unfolding choose
+choose-either P true f g = f refl
+choose-either P false f g = g refl

@@ -4,8 +4,11 @@ use Rattle.machine.specs.Promises.{Promises}
 use Rattle.automata.proofs.Reading.{reading-refused, reading-refused-values, reading-valid, reading-valid-values}
 use Rattle.writing.proofs.Decimals.{digits-one, digits-decimal}
 use Rattle.machine.proofs.WordTests.{refuses-image, refuses-symbol, says-yes, says-no, same-answer}
-use Rattle.machine.proofs.RunsKept.{run-promises, runs-agree, editions-agree, block-unpends, entered-in-order}
+use Rattle.machine.proofs.RunsKept.{run-promises, runs-agree, editions-agree, block-unpends, blocked-passes, entered-in-order}
 use Rattle.machine.proofs.Reasons.{why-tells}
+use Rattle.machine.proofs.Greedy.{picks-most}
+use Rattle.machine.proofs.Counted.{counts-once}
+use Rattle.machine.proofs.Hitting.{growth-sound}
 use Rattle.machine.proofs.LentTables.{blockers-length}
 use Rattle.machine.proofs.Images.{walk-tells}
 use Rattle.machine.proofs.Printing.{prints-kept}
@@ -25,6 +28,10 @@ kept = record {
   runs-agree = runs-agree;
   editions-agree = editions-agree;
   block-unpends = block-unpends;
+  grows-passing = λ image way table below X valid. growth-sound image valid way table below X;
+  blocked-passes = blocked-passes;
+  counts-once = counts-once;
+  picks-most = picks-most;
   entered-in-order = entered-in-order;
   why-tells = why-tells;
   shorter-counts = λ masks levels. blockers-length _ _ _;

@@ -19,6 +19,8 @@ use lib.ListN.{
   take-append-drop,
 }
 use lib.Seq.{take-suc, drop-drop, append-snoc, getD-at, length-take-le}
+use Rattle.lists.specs.Lists.{_∈_, here, there, Each}
+use Rattle.lists.proofs.Lists.{in-none, each-more}
 use Rattle.machine.specs.Machine.{Blocker, Pending}
 use Rattle.machine.specs.Lent.{
   BlockerRoom,
@@ -49,6 +51,24 @@ pub column-length : {A : Type 0} (field : A → ℕ) (entries : List A) → leng
 unfolding column
 column-length field [] = refl
 column-length field (entry ∷ entries) = ap suc (column-length field entries)
+
+-- it has the field of each entry, at the entry's place, and no other number
+pub in-column : {A : Type 0} (field : A → ℕ) {entry : A} {entries : List A} → entry ∈ entries → field entry ∈ column field entries
+unfolding column
+in-column field (here e) = here (ap field e)
+in-column field (there m) = there (in-column field m)
+
+pub column-at : {A : Type 0} (field : A → ℕ) (before : List A) (entry : A) (after : List A)
+    → getD (column field (before ++ entry ∷ after)) (length before) 0 ≡ field entry
+unfolding column
+column-at field [] entry after = refl
+column-at field (first ∷ before) entry after = column-at field before entry after
+
+pub column-each : {A : Type 0} (field : A → ℕ) (P : ℕ → Type 0) (entries : List A) → Each (λ entry. P (field entry)) entries
+    → Each P (column field entries)
+unfolding column
+column-each field P [] f = λ number m. absurd (in-none m)
+column-each field P (entry ∷ entries) f = each-more (f entry (here refl)) (column-each field P entries (λ other m. f other (there m)))
 
 -- a table keeps its length
 pub placed-length : (old : ℕ) (new before : List ℕ) → old ≤ length before → length new ≤ length before → length (placed old new before) ≡ length before

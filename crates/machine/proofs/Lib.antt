@@ -17,6 +17,9 @@ pub mod Unpending
 pub mod LentTables
 pub mod Unstamped
 pub mod Reasons
+pub mod Greedy
+pub mod Counted
+pub mod Hitting
 pub mod WordTests
 pub mod Images
 pub mod Judging

@@ -1,12 +1,12 @@
 -- The promises of runs, from what is proved of the machine: a run on an image is refused, or is the machine's run on the image's system. Assumes nothing.
-use Prim.Native.Nat.{ℕ, zero, suc, _^_, _≤_, _<_}
+use Prim.Native.Nat.{ℕ, zero, suc, _-_, _^_, _≤_, _<_}
 use mathlib.Core.Path.{_≡_, refl, sym, ap, subst, _∙_}
 use mathlib.Core.Bool.{Bool, true, false}
 use mathlib.Core.List.{List, [], _∷_}
 use mathlib.Core.Logic.{_⊎_, inl, inr}
 use native.Mathlib.Omega.{arith}
 use borrow.Author.Tests.{eqb-true, ne-eqb}
-use lib.Dec.{T}
+use lib.Dec.{T, eqb}
 use lib.ListN.{length}
 use Rattle.lists.specs.Tests.{_or_, neg}
 use Rattle.lists.proofs.Tests.{is-true, or-left, or-right, neg-neg}
@@ -15,17 +15,18 @@ use Rattle.automata.specs.Image.{Valid, check, checkImage, statesOf}
 use Rattle.automata.specs.Automaton.{automatonOf, HoldOne}
 use Rattle.automata.specs.Acceptance.{Accepted}
 use Rattle.automata.proofs.Checks.{check-number}
-use Rattle.machine.specs.Machine.{Pending, Configuration, Rooms, blocks, step, Next, ends, comesTo}
-use Rattle.machine.specs.Runs.{Lent, Terms, Result, systemOf, roomsOf, refused, resultOf, oddRooms, oversize, unknownEdition}
+use Rattle.machine.specs.Machine.{Pending, Configuration, Rooms, blocks, step, passes, Next, ends, comesTo}
+use Rattle.machine.specs.Runs.{Lent, Terms, Result, systemOf, roomsOf, refused, resultOf, oddRooms, oversize}
+use Rattle.machine.specs.Runs.{unknownEdition, unknownWay}
 use Rattle.machine.specs.Runs.{checkTerms, checkRun, givenOf, endOf, runWith, runOf}
 use Rattle.machine.specs.Meaning.{EnteredInOrder, WorksIn}
-use Rattle.machine.specs.Promises.{Refused, Rules, RunEnded, inEdition, Verdict, Decides, RunPromises, Agreed}
-use Rattle.machine.proofs.Language.{Lawful}
-use Rattle.machine.proofs.Passing.{byStates-sound}
+use Rattle.machine.specs.Promises.{Refused, Rules, RunEnded, inEdition, byWay, Verdict, Decides, RunPromises, Agreed}
+use Rattle.machine.proofs.Language.{Lawful, Sound}
+use Rattle.machine.proofs.Hitting.{growth-sound}
 use Rattle.machine.proofs.Chains.{Done, Ended}
 use Rattle.machine.proofs.Driving.{works-in, machine-ends, machine-done, machine-allowed, machine-ended, machine-decided, verdict-stays}
 use Rattle.machine.proofs.Driving.{machine-begins-alike}
-use Rattle.machine.proofs.Unpending.{block-leaves}
+use Rattle.machine.proofs.Unpending.{grown-passes, block-leaves}
 use Rattle.machine.proofs.Images.{image-lawful, accepted-by-runs}
 use Rattle.machine.proofs.Judging.{Even, is-alone, rules, results-agree, decided-verdict, decided-number, decided-in-time}
 
@@ -44,66 +45,105 @@ unfolding check
 check-high true number later l h = inr l
 check-high false number later l h = h
 
--- the checks of the rooms come before a later one
-rooms-before : (odd over : Bool) (later : ℕ) → (check odd 30 (check over 31 0) ≡ 0 → ⊥) → check odd 30 (check over 31 later) ≡ check odd 30 (check over 31 0)
+-- a check comes before those behind it: where it applies they do not count, and where it does not they answer
+check-waits : (b : Bool) (number x y : ℕ) → ((x ≡ 0 → ⊥) → y ≡ x) → (check b (suc number) x ≡ 0 → ⊥) → check b (suc number) y ≡ check b (suc number) x
 unfolding check
-rooms-before true over later n = refl
-rooms-before false true later n = refl
-rooms-before false false later n = absurd (n refl)
+check-waits true number x y h n = refl
+check-waits false number x y h n = h n
 
-rooms-passed : (odd over : Bool) (later : ℕ) → check odd 30 (check over 31 0) ≡ 0 → check odd 30 (check over 31 later) ≡ later
+check-passed : (b : Bool) (number x y answer : ℕ) → (x ≡ 0 → y ≡ answer) → check b (suc number) x ≡ 0 → check b (suc number) y ≡ answer
 unfolding check
-rooms-passed true over later e = absurd (omega arith)
-rooms-passed false true later e = absurd (omega arith)
-rooms-passed false false later e = refl
+check-passed true number x y answer h e = absurd (omega arith)
+check-passed false number x y answer h e = h e
+
+check-applies : (b : Bool) (number later : ℕ) → T b → check b number later ≡ number
+unfolding check
+check-applies true number later t = refl
+check-applies false number later t = absurd t
 
 -- editions 1 and 2 are refused alike
-editions-checked : (lent : Lent) (hints : List ℕ) (number : ℕ) → checkTerms lent hints 1 number ≡ checkTerms lent hints 2 number
+editions-checked : (lent : Lent) (hints : List ℕ) (way number : ℕ) → checkTerms lent hints 1 way number ≡ checkTerms lent hints 2 way number
 unfolding checkTerms unknownEdition neg _or_
-editions-checked lent hints zero = refl
-editions-checked lent hints (suc number) = refl
+editions-checked lent hints way zero = refl
+editions-checked lent hints way (suc number) = refl
+
+-- neither of two numbers
+neither : (number a b : ℕ) → (number ≡ a → ⊥) → (number ≡ b → ⊥) → T (neg (eqb number a or eqb number b))
+unfolding neg _or_
+neither number a b f g = rw (ne-eqb _ _ f, ne-eqb _ _ g) tt
 
 -- the checks that follow the image's
-module _ (lent : Lent) (hints : List ℕ) (edition : ℕ) where
+module _ (lent : Lent) (hints : List ℕ) (edition way : ℕ) where
   -- an image that is refused is refused under its own number
-  image-kept : (number : ℕ) → (number ≡ 0 → ⊥) → checkTerms lent hints edition number ≡ number
+  image-kept : (number : ℕ) → (number ≡ 0 → ⊥) → checkTerms lent hints edition way number ≡ number
   unfolding checkTerms
   image-kept zero n = absurd (n refl)
   image-kept (suc number) n = refl
 
-  -- whatever refuses a run in edition 1 comes before 36
-  edition-waits : (number : ℕ) → (checkTerms lent hints 1 number ≡ 0 → ⊥) → checkTerms lent hints edition number ≡ checkTerms lent hints 1 number
-  unfolding checkTerms unknownEdition check neg _or_
-  edition-waits zero n = rooms-before (oddRooms lent) (oversize lent hints) _ n
+  -- the checks of the rooms, and then what later ones answer
+  abbrev roomsThen : ℕ → ℕ
+  roomsThen later = check (oddRooms lent) 30 (check (oversize lent hints) 31 later)
+
+  rooms-wait : (x y : ℕ) → ((x ≡ 0 → ⊥) → y ≡ x) → (roomsThen x ≡ 0 → ⊥) → roomsThen y ≡ roomsThen x
+  rooms-wait x y h = check-waits (oddRooms lent) 29 _ _ (check-waits (oversize lent hints) 30 x y h)
+
+  rooms-passed : (x y answer : ℕ) → (x ≡ 0 → y ≡ answer) → roomsThen x ≡ 0 → roomsThen y ≡ answer
+  rooms-passed x y answer h = check-passed (oddRooms lent) 29 _ _ answer (check-passed (oversize lent hints) 30 x y answer h)
+
+  -- whatever refuses a run in edition 1 and by way 0 comes before 36
+  edition-waits : (number : ℕ) → (checkTerms lent hints 1 0 number ≡ 0 → ⊥)
+      → checkTerms lent hints edition way number ≡ checkTerms lent hints 1 0 number
+  unfolding checkTerms unknownEdition unknownWay check neg _or_
+  edition-waits zero n = rooms-wait 0 (check (unknownEdition edition) 36 (check (unknownWay way) 37 0)) (λ f. absurd (f refl)) n
   edition-waits (suc number) n = refl
 
-  -- where nothing else refuses it, an edition other than 1 or 2 does
-  edition-refused : (edition ≡ 1 → ⊥) → (edition ≡ 2 → ⊥) → (number : ℕ) → checkTerms lent hints 1 number ≡ 0
-      → checkTerms lent hints edition number ≡ 36
-  unfolding checkTerms unknownEdition check neg _or_
-  edition-refused first second zero e = rw (ne-eqb _ _ first, ne-eqb _ _ second) (rooms-passed (oddRooms lent) (oversize lent hints) 36 e)
+  -- where nothing does, an edition other than 1 or 2 is refused
+  edition-refused : (edition ≡ 1 → ⊥) → (edition ≡ 2 → ⊥) → (number : ℕ) → checkTerms lent hints 1 0 number ≡ 0
+      → checkTerms lent hints edition way number ≡ 36
+  unfolding checkTerms unknownEdition unknownWay check neg _or_
+  edition-refused first second zero e =
+      rooms-passed 0 (check (unknownEdition edition) 36 (check (unknownWay way) 37 0)) 36
+      (λ z. check-applies (unknownEdition edition) 36 _ (neither edition 1 2 first second)) e
   edition-refused first second (suc number) e = absurd (omega arith)
 
-  image-first : (number : ℕ) → checkTerms lent hints edition number ≡ 0 → number ≡ 0
+  -- whatever refuses a run by way 0 comes before 37
+  way-waits : (number : ℕ) → (checkTerms lent hints edition 0 number ≡ 0 → ⊥) → checkTerms lent hints edition way number ≡ checkTerms lent hints edition 0 number
+  unfolding checkTerms unknownWay check neg _or_
+  way-waits zero n =
+      rooms-wait (check (unknownEdition edition) 36 0) (check (unknownEdition edition) 36 (check (unknownWay way) 37 0))
+      (check-waits (unknownEdition edition) 35 0 (check (unknownWay way) 37 0) (λ f. absurd (f refl))) n
+  way-waits (suc number) n = refl
+
+  -- where nothing does, a way other than 0 or 1 is refused
+  way-refused : (way ≡ 0 → ⊥) → (way ≡ 1 → ⊥) → (number : ℕ) → checkTerms lent hints edition 0 number ≡ 0 → checkTerms lent hints edition way number ≡ 37
+  unfolding checkTerms unknownWay check neg _or_
+  way-refused first second zero e =
+      rooms-passed (check (unknownEdition edition) 36 0) (check (unknownEdition edition) 36 (check (unknownWay way) 37 0)) 37
+      (check-passed (unknownEdition edition) 35 0 (check (unknownWay way) 37 0) 37 (λ z. check-applies (unknownWay way) 37 0 (neither way 0 1 first second))) e
+  way-refused first second (suc number) e = absurd (omega arith)
+
+  image-first : (number : ℕ) → checkTerms lent hints edition way number ≡ 0 → number ≡ 0
   unfolding checkTerms
   image-first zero e = refl
   image-first (suc number) e = absurd (omega arith)
 
-  rooms-checked : checkTerms lent hints edition 0 ≡ 0 → T (oddRooms lent) → ⊥
+  rooms-checked : checkTerms lent hints edition way 0 ≡ 0 → T (oddRooms lent) → ⊥
   unfolding checkTerms
   rooms-checked e = check-fails _ _ _ e .0
 
-  terms-number : (number : ℕ) → (number ≡ 0) ⊎ (20 ≤ number) → (checkTerms lent hints edition number ≡ 0) ⊎ (20 ≤ checkTerms lent hints edition number)
+  terms-number : (number : ℕ) → (number ≡ 0) ⊎ (20 ≤ number) → (checkTerms lent hints edition way number ≡ 0) ⊎ (20 ≤ checkTerms lent hints edition way number)
   unfolding checkTerms
-  terms-number zero h = check-high _ _ _ (omega arith) (check-high _ _ _ (omega arith) (check-high _ _ 0 (omega arith) (inl refl)))
+  terms-number zero h =
+      check-high _ _ _ (omega arith)
+      (check-high _ _ _ (omega arith) (check-high _ _ _ (omega arith) (check-high _ _ 0 (omega arith) (inl refl))))
   terms-number (suc number) h = h
 
 module _ (image : List ℕ) (lent : Lent) (terms : Terms) where
   pub checked : checkRun image lent terms ≡ 0 → Checked image lent
   unfolding checkRun oddRooms
   checked e =
-      let v : checkImage image ≡ 0 = image-first lent (terms .hints) (terms .edition) (checkImage image) e in
-      let odd = rooms-checked lent (terms .hints) (terms .edition) (ap (checkTerms lent (terms .hints) (terms .edition)) (sym v) ∙ e) in
+      let v : checkImage image ≡ 0 = image-first lent (terms .hints) (terms .edition) (terms .way) (checkImage image) e in
+      let odd = rooms-checked lent (terms .hints) (terms .edition) (terms .way) (ap (checkTerms lent (terms .hints) (terms .edition) (terms .way)) (sym v) ∙ e) in
       record {
         valid = v;
         even = record {
@@ -118,7 +158,7 @@ module _ (image : List ℕ) (lent : Lent) (terms : Terms) where
   -- a run's checks answer 0 or a number from 20 on
   pub run-number : (checkRun image lent terms ≡ 0) ⊎ (20 ≤ checkRun image lent terms)
   unfolding checkRun
-  run-number = terms-number lent (terms .hints) (terms .edition) (checkImage image) (high (check-number image))
+  run-number = terms-number lent (terms .hints) (terms .edition) (terms .way) (checkImage image) (high (check-number image))
     where
       high : (checkImage image ≡ 0) ⊎ ((20 ≤ checkImage image) × (checkImage image ≤ 27)) → (checkImage image ≡ 0) ⊎ (20 ≤ checkImage image)
       high (inl e) = inl e
@@ -127,7 +167,7 @@ module _ (image : List ℕ) (lent : Lent) (terms : Terms) where
   -- the image's number comes first
   image-number : (Valid image → ⊥) → checkRun image lent terms ≡ checkImage image
   unfolding checkRun
-  image-number = image-kept lent (terms .hints) (terms .edition) (checkImage image)
+  image-number = image-kept lent (terms .hints) (terms .edition) (terms .way) (checkImage image)
 
 -- the result of a run shows its steps
 result-steps : (lent : Lent) (n : Next) → resultOf lent n .steps ≡ comesTo n .steps
@@ -152,23 +192,32 @@ module _ (image : List ℕ) (lent : Lent) (terms : Terms) where
       at (inl e) = absurd (n e)
       at (inr h) = is-alone (refused-run (checkRun image lent terms) refl h)
 
-  refuses-image : (Valid image → ⊥) → Refused lent (checkImage image) (runOf image lent terms)
-  refuses-image n =
-      let e = image-number image lent terms n in
-      subst (λ (number : ℕ). Refused lent number (runOf image lent terms)) e (refuses (λ z. n (sym e ∙ z)))
+  -- a number that is the checks' and comes from a check that refuses
+  refuses-alike : (number : ℕ) → checkRun image lent terms ≡ number → (number ≡ 0 → ⊥) → Refused lent number (runOf image lent terms)
+  refuses-alike number e n = subst (λ (x : ℕ). Refused lent x (runOf image lent terms)) e (refuses (λ z. n (sym e ∙ z)))
 
-  -- an edition other than 1 or 2 is refused, after whatever refuses the run in edition 1
-  refuses-edition : (terms .edition ≡ 1 → ⊥) → (terms .edition ≡ 2 → ⊥) → checkRun image lent (inEdition 1 terms) ≡ 0
+  refuses-image : (Valid image → ⊥) → Refused lent (checkImage image) (runOf image lent terms)
+  refuses-image n = refuses-alike _ (image-number image lent terms n) n
+
+  -- an edition other than 1 or 2 is refused, after whatever refuses the run in edition 1 and by way 0
+  refuses-edition : (terms .edition ≡ 1 → ⊥) → (terms .edition ≡ 2 → ⊥) → checkRun image lent (inEdition 1 (byWay 0 terms)) ≡ 0
       → Refused lent 36 (runOf image lent terms)
   unfolding checkRun
-  refuses-edition first second e =
-      is-alone (refused-run 36 (edition-refused lent (terms .hints) (terms .edition) first second (checkImage image) e) (omega arith))
+  refuses-edition first second e = refuses-alike 36 (edition-refused lent (terms .hints) (terms .edition) (terms .way) first second (checkImage image) e) (λ z. omega arith)
 
-  edition-after : (checkRun image lent (inEdition 1 terms) ≡ 0 → ⊥) → Refused lent (checkRun image lent (inEdition 1 terms)) (runOf image lent terms)
+  edition-after : (checkRun image lent (inEdition 1 (byWay 0 terms)) ≡ 0 → ⊥)
+      → Refused lent (checkRun image lent (inEdition 1 (byWay 0 terms))) (runOf image lent terms)
   unfolding checkRun
-  edition-after n =
-      let e = edition-waits lent (terms .hints) (terms .edition) (checkImage image) n in
-      subst (λ (number : ℕ). Refused lent number (runOf image lent terms)) e (refuses (λ z. n (sym e ∙ z)))
+  edition-after n = refuses-alike _ (edition-waits lent (terms .hints) (terms .edition) (terms .way) (checkImage image) n) n
+
+  -- a way other than 0 or 1 is refused, after whatever refuses the run by way 0
+  refuses-way : (terms .way ≡ 0 → ⊥) → (terms .way ≡ 1 → ⊥) → checkRun image lent (byWay 0 terms) ≡ 0 → Refused lent 37 (runOf image lent terms)
+  unfolding checkRun
+  refuses-way first second e = refuses-alike 37 (way-refused lent (terms .hints) (terms .edition) (terms .way) first second (checkImage image) e) (λ z. omega arith)
+
+  way-after : (checkRun image lent (byWay 0 terms) ≡ 0 → ⊥) → Refused lent (checkRun image lent (byWay 0 terms)) (runOf image lent terms)
+  unfolding checkRun
+  way-after n = refuses-alike _ (way-waits lent (terms .hints) (terms .edition) (terms .way) (checkImage image) n) n
 
   -- a run that is not refused ends
   end-is : Ended (endOf image (roomsOf lent) terms)
@@ -182,9 +231,12 @@ module _ (image : List ℕ) (lent : Lent) (terms : Terms) where
     shows : runOf image lent terms ≡ resultOf lent (ends (end-is .outcome))
     shows = machine-run none ∙ ap (resultOf lent) (end-is .is)
 
+    sound : Sound (systemOf image) (givenOf image terms .grow)
+    sound = growth-sound image (checked image lent terms none .valid) (terms .way)
+
     run-done : Done (systemOf image) (roomsOf lent) (terms .edition) (end-is .outcome)
     unfolding endOf
-    run-done = machine-done (systemOf image) lawful (roomsOf lent) (terms .edition) (givenOf image terms) (byStates-sound (systemOf image)) (end-is .is)
+    run-done = machine-done (systemOf image) lawful (roomsOf lent) (terms .edition) (givenOf image terms) sound (end-is .is)
 
     run-rules : Rules image lent (terms .edition) (runOf image lent terms)
     run-rules =
@@ -196,20 +248,20 @@ module _ (image : List ℕ) (lent : Lent) (terms : Terms) where
     run-ended = record {
       outcome = end-is .outcome;
       shows = shows;
-      how = machine-ended (systemOf image) lawful (roomsOf lent) (terms .edition) (givenOf image terms) (byStates-sound (systemOf image)) (end-is .is);
+      how = machine-ended (systemOf image) lawful (roomsOf lent) (terms .edition) (givenOf image terms) sound (end-is .is);
     }
 
     run-allowed : runOf image lent terms .steps ≤ terms .allowance
     unfolding endOf
     run-allowed =
         let steps = ap (λ (x : Result). x .steps) (machine-run none) ∙ result-steps lent _ in
-        omega (arith, steps, machine-allowed (systemOf image) lawful (roomsOf lent) (terms .edition) (givenOf image terms) (byStates-sound (systemOf image)))
+        omega (arith, steps, machine-allowed (systemOf image) lawful (roomsOf lent) (terms .edition) (givenOf image terms) sound)
 
     run-decides : 2 ^ statesOf image ≤ length (lent .room .masks) → 2 ^ statesOf image ≤ length (lent .cases) → 4 ^ suc (statesOf image) ≤ terms .allowance
         → Decides image lent terms (4 ^ suc (statesOf image)) (runOf image lent terms)
     unfolding endOf
     run-decides places levels enough =
-        let d = machine-decided (systemOf image) lawful (roomsOf lent) (terms .edition) (givenOf image terms) (byStates-sound (systemOf image)) places levels enough
+        let d = machine-decided (systemOf image) lawful (roomsOf lent) (terms .edition) (givenOf image terms) sound places levels enough
         (end-is .is) in
         let steps = ap (λ (x : Result). x .steps) shows ∙ result-steps lent _ in
         record {
@@ -247,6 +299,8 @@ module _ (image : List ℕ) (lent : Lent) (terms : Terms) where
         refuses-only = λ l e. omega (arith, run-rules e .other);
         refuses-edition = refuses-edition;
         edition-after = edition-after;
+        refuses-way = refuses-way;
+        way-after = way-after;
         judged = run-rules;
         ended = run-ended;
         in-allowance = in-allowance;
@@ -279,7 +333,7 @@ pub editions-agree : (image : List ℕ) (lent : Lent) (terms : Terms) → (Accep
     → runOf image lent (inEdition 1 terms) ≡ runOf image lent (inEdition 2 terms)
 unfolding runOf runWith checkRun endOf
 editions-agree image lent terms not-final =
-    ap (runWith image lent (inEdition 1 terms)) (editions-checked lent (terms .hints) (checkImage image))
+    ap (runWith image lent (inEdition 1 terms)) (editions-checked lent (terms .hints) (terms .way) (checkImage image))
     ∙ at (checkRun image lent (inEdition 2 terms)) refl
   where
     at : (number : ℕ) → checkRun image lent (inEdition 2 terms) ≡ number
@@ -295,11 +349,19 @@ pub block-unpends : (image : List ℕ) (rooms : Rooms) (terms : Terms) (X : Pend
     → WorksIn (systemOf image) rooms (terms .edition) (givenOf image terms) c → c .pending ≡ X ∷ rest → step (systemOf image) (givenOf image terms) c ≡ blocks d
     → d .pending ≡ rest
 block-unpends image rooms terms X rest c d valid works waits made =
-    let w = works-in (systemOf image) (image-lawful image valid) rooms (terms .edition) (givenOf image terms) (byStates-sound (systemOf image)) works in
-    block-leaves (systemOf image) refl (givenOf image terms) (byStates-sound (systemOf image)) c (w .holds) waits made
+    let w = works-in (systemOf image) (image-lawful image valid) rooms (terms .edition) (givenOf image terms) (growth-sound image valid (terms .way)) works in
+    block-leaves (systemOf image) refl (givenOf image terms) (growth-sound image valid (terms .way)) c (w .holds) waits made
+
+-- a case that is blocked passes the block test itself
+pub blocked-passes : (image : List ℕ) (rooms : Rooms) (terms : Terms) (X : Pending) (rest : List Pending) (c d : Configuration) → Valid image
+    → WorksIn (systemOf image) rooms (terms .edition) (givenOf image terms) c → c .pending ≡ X ∷ rest → step (systemOf image) (givenOf image terms) c ≡ blocks d
+    → T (passes (systemOf image) (c .table) (c .level - suc (length rest)) (X .case) (X .case))
+blocked-passes image rooms terms X rest c d valid works waits made =
+    let w = works-in (systemOf image) (image-lawful image valid) rooms (terms .edition) (givenOf image terms) (growth-sound image valid (terms .way)) works in
+    grown-passes (systemOf image) (givenOf image terms) c (w .holds) waits made
 
 -- in every table that a run comes to, its blockers entered in order
 pub entered-in-order : (image : List ℕ) (rooms : Rooms) (terms : Terms) (c : Configuration) → Valid image
     → WorksIn (systemOf image) rooms (terms .edition) (givenOf image terms) c → EnteredInOrder 0 (c .steps) (c .table)
 entered-in-order image rooms terms c valid works =
-    works-in (systemOf image) (image-lawful image valid) rooms (terms .edition) (givenOf image terms) (byStates-sound (systemOf image)) works .stamped
+    works-in (systemOf image) (image-lawful image valid) rooms (terms .edition) (givenOf image terms) (growth-sound image valid (terms .way)) works .stamped

@@ -1,24 +1,26 @@
--- "X is no longer pending": in a system with one final case, a block that leaves nothing pending has blocked that case, so none becomes pending.
--- Assumes nothing.
-use Prim.Native.Nat.{ℕ, suc, _-_}
+-- The case X for which a block is made: it passes the block test itself, and "X is no longer pending": in a system with one final case, a block that
+-- leaves nothing pending has blocked that case, so none becomes pending. Assumes nothing.
+use Prim.Native.Nat.{ℕ, suc, _-_, _<_}
 use mathlib.Core.Path.{_≡_, refl, sym, ap, subst, _∙_}
 use mathlib.Core.Bool.{Bool, true}
 use mathlib.Core.List.{List, [], _∷_}
 use mathlib.Core.Logic.{_⊎_, inl, inr}
 use native.Mathlib.Omega.{arith}
+use lib.Dec.{T}
 use lib.ListN.{length}
 use Rattle.lists.specs.Tests.{choose}
 use Rattle.lists.specs.Lists.{_∈_, keep}
 use Rattle.lists.proofs.Tests.{is-true}
 use Rattle.lists.proofs.Lists.{in-none, in-cases}
 use Rattle.machine.specs.System.{System}
-use Rattle.machine.specs.Machine.{Blocker, Pending, Configuration, Given, blocked, staying, finalPending, pendingAfter}
-use Rattle.machine.specs.Machine.{Step, opens, extends, blocks, closes, answersNonempty, answersEmpty, openStep, extendStep, blockStep, closeWith, step}
+use Rattle.machine.specs.Machine.{Blocker, Pending, Configuration, Given, blocked, qualifies, passes, chosen}
+use Rattle.machine.specs.Machine.{staying, finalPending, pendingAfter}
+use Rattle.machine.specs.Machine.{Step, opens, extends, blocks, closes, answersNonempty, answersEmpty, extendStep, blockStep, step}
 use Rattle.machine.proofs.Language.{Sound}
 use Rattle.machine.proofs.Tables.{means-blocked, byBlocker}
 use Rattle.machine.proofs.Rising.{placed}
-use Rattle.machine.proofs.Passing.{Passes, chosen-is, chosen-passes}
-use Rattle.machine.proofs.Steps.{under, madeBy, Taken, opening, finding, extending, blocking, closing, emptying, step-taken}
+use Rattle.machine.proofs.Passing.{Passes, means-passes, chosen-is, chosen-passes}
+use Rattle.machine.proofs.Steps.{under, madeBy, Taken, finding, extending, blocking, step-taken}
 use Rattle.machine.proofs.Invariant.{Invariant, Comes, final, chain-lowest, entering, block-covers}
 use Rattle.machine.proofs.Verdicts.{Holds, unqualified-passes}
 
@@ -39,10 +41,28 @@ isBlock (answersEmpty d) = 0
 blocks-only : {st : Step} {d : Configuration} → st ≡ blocks d → isBlock st ≡ 0 → ⊥
 blocks-only e z = let q = ap isBlock e in omega (arith, q, z)
 
--- the pending cases above the lowest
-abbrev above : List Pending → List Pending
-above [] = []
-above (p ∷ rest) = rest
+-- a block is made for the lowest pending case where no symbol qualifies
+record MadeFor (S : System) (given : Given) (c : Configuration) (X : Pending) (rest : List Pending) (d : Configuration) : Type 0 where
+  unqualified : (s : ℕ) → s < S .symbols → T (qualifies S (c .table) (under c rest) (X .case) s) → ⊥
+  is-block : blockStep (S .initial) (S .finals) c rest (under c rest) (chosen S given c (under c rest) (X .case)) ≡ blocks d
+
+made-for : {S : System} {given : Given} {c d : Configuration} {X : Pending} {rest : List Pending} → c .pending ≡ X ∷ rest → step S given c ≡ blocks d
+    → MadeFor S given c X rest d
+unfolding extendStep
+made-for {S} {given} {c} {d} {X} {rest} waits =
+    at (subst (λ (pending : List Pending). Taken S given c pending (c .isOpen) (step S given c)) waits (step-taken {given = given} c))
+  where
+    at : {isOpen : Bool} {st : Step} → Taken S given c (X ∷ rest) isOpen st → st ≡ blocks d → MadeFor S given c X rest d
+    at (finding s l t u) e = absurd (blocks-only e refl)
+    at (extending s l t u) e = absurd (blocks-only e refl)
+    at (blocking f) e = record { unqualified = f; is-block = e }
+
+-- "it passes the block test whenever X does, as every X that a run from its begin grows does": X does
+pub grown-passes : (S : System) (given : Given) (c : Configuration) → Holds S c → {X : Pending} {rest : List Pending} {d : Configuration}
+    → c .pending ≡ X ∷ rest → step S given c ≡ blocks d → T (passes S (c .table) (c .level - suc (length rest)) (X .case) (X .case))
+grown-passes S given c inv waits made =
+    means-passes S (c .table) _ _ _
+    (unqualified-passes (subst (Invariant S (c .table) (c .level)) waits inv) (made-for {given = given} waits made .unqualified))
 
 module _ (S : System) {F : ℕ} (one : S .finals ≡ F ∷ []) where
   -- a pending case above which none waits is the final case
@@ -71,16 +91,9 @@ module _ (S : System) {F : ℕ} (one : S .finals ≡ F ∷ []) where
 
   pub block-leaves : (given : Given) → Sound S (given .grow) → (c : Configuration) → Holds S c → {X : Pending} {rest : List Pending} {d : Configuration}
       → c .pending ≡ X ∷ rest → step S given c ≡ blocks d → d .pending ≡ rest
-  unfolding openStep extendStep blockStep closeWith placed staying keep
-  block-leaves given sound c inv {X} {rest} {d} = at (step-taken {given = given} c) inv
-    where
-      at : {pending : List Pending} {isOpen : Bool} {st : Step} → Taken S given c pending isOpen st → Invariant S (c .table) (c .level) pending
-          → pending ≡ X ∷ rest → st ≡ blocks d → d .pending ≡ rest
-      at opening h w e = absurd (blocks-only e refl)
-      at (finding s l t u) h w e = absurd (blocks-only e refl)
-      at (extending s l t u) h w e = absurd (blocks-only e refl)
-      at (blocking {p = p} {rest = others} f) h w e =
-          let passing = chosen-passes sound (unqualified-passes h f) (chosen-is S given c (under c others) (p .case)) in
-          ap (λ (st : Step). madeBy st .pending) (sym e) ∙ after-block others h _ passing ∙ ap above w
-      at (closing q) h w e = absurd (blocks-only e refl)
-      at (emptying j l k t) h w e = absurd (blocks-only e refl)
+  unfolding blockStep placed staying keep
+  block-leaves given sound c inv {X} {rest} waits made =
+      let h = subst (Invariant S (c .table) (c .level)) waits inv in
+      let block = made-for {given = given} waits made in
+      let passing = chosen-passes sound (unqualified-passes h (block .unqualified)) (chosen-is S given c (under c rest) (X .case)) in
+      ap (λ (st : Step). madeBy st .pending) (sym (block .is-block)) ∙ after-block rest h _ passing

@@ -4,10 +4,10 @@ use Prim.Native.Nat.{ℕ, suc, _+_, _-_, _*_, _^_, _≤_, _<_, min}
 use mathlib.Core.Path.{_≡_}
 use mathlib.Core.List.{List, [], _∷_, _++_}
 use mathlib.Core.Logic.{_↔_, _⊎_}
-use lib.Dec.{T}
+use lib.Dec.{T, eqb}
 use lib.ListN.{length, take, replicate}
-use Rattle.lists.specs.Lists.{_∈_, Each}
-use Rattle.masks.specs.Sets.{within}
+use Rattle.lists.specs.Lists.{_∈_, Each, any, keep}
+use Rattle.masks.specs.Sets.{within, without}
 use Rattle.automata.specs.Image.{Row, Valid, checkImage, statesOf, symbolsOf, rowCountOf, initialOf, finalOf, rowsOf}
 use Rattle.automata.specs.Automaton.{automatonOf, backward, bringAllIn, rowsWalked, HoldOne}
 use Rattle.automata.specs.Acceptance.{Accepted}
@@ -16,9 +16,10 @@ use Rattle.automata.specs.Picks.{eventsOf, FormRun, AllPick}
 use Rattle.automata.specs.Answers.{readImage, imageNumber, headAfter}
 use Rattle.writing.specs.Decimal.{digits, IsDecimal}
 use Rattle.writing.specs.Rooms.{Answer, noBytes, allBytes}
-use Rattle.machine.specs.Machine.{Blocker, Pending, Configuration, Rooms, Outcome, ends, begin, blocks, step, blocked}
+use Rattle.machine.specs.Machine.{Blocker, Pending, Configuration, Rooms, Outcome, ends, begin, blocks, step, blocked, passes}
 use Rattle.machine.specs.Meaning.{Closed, EnteredInOrder, WorksIn, EndedBy}
 use Rattle.machine.specs.Why.{Reason, byBlocker, byStart, nothing, why, FirstCovering, LowestAbsent}
+use Rattle.machine.specs.Hitting.{withCases, meets, best, growthOf}
 use Rattle.machine.specs.Print.{printOf, printRun}
 use Rattle.machine.specs.Lent.{blockersFrom, blockersIn, column, eachTable}
 use Rattle.machine.specs.Runs.{Lent, zeroed, Terms, Result, systemOf, roomsOf, givenOf, endOf, resultOf, checkRun, runOf}
@@ -86,11 +87,15 @@ pub record RunEnded (image : List ℕ) (lent : Lent) (terms : Terms) (r : Result
 
 -- the same terms with another allowance
 abbrev pub withAllowance : ℕ → Terms → Terms
-withAllowance allowance terms = record { hints = terms .hints; allowance = allowance; edition = terms .edition }
+withAllowance allowance terms = record { hints = terms .hints; allowance = allowance; edition = terms .edition; way = terms .way }
 
 -- the same terms in another edition
 abbrev pub inEdition : ℕ → Terms → Terms
-inEdition edition terms = record { hints = terms .hints; allowance = terms .allowance; edition = edition }
+inEdition edition terms = record { hints = terms .hints; allowance = terms .allowance; edition = edition; way = terms .way }
+
+-- the same terms by another way
+abbrev pub byWay : ℕ → Terms → Terms
+byWay way terms = record { hints = terms .hints; allowance = terms .allowance; edition = terms .edition; way = way }
 
 -- "A run's verdict is its number where that is 0 ("empty") or 1 ("nonempty")"; 02, 6: "5 being a verdict of edition 2"
 abbrev pub Verdict : ℕ → ℕ → Type 0
@@ -109,9 +114,12 @@ pub record RunPromises (image : List ℕ) (lent : Lent) (terms : Terms) (r : Res
   pub refuses : (checkRun image lent terms ≡ 0 → ⊥) → Refused lent (checkRun image lent terms) r
   pub refuses-image : (Valid image → ⊥) → Refused lent (checkImage image) r
   pub refuses-only : 20 ≤ r .number → checkRun image lent terms ≡ 0 → ⊥
-  -- 02, 6: "an edition other than 1 or 2 gives 36 (unknown edition), after 31": whatever refuses the run in edition 1 comes first
-  pub refuses-edition : (terms .edition ≡ 1 → ⊥) → (terms .edition ≡ 2 → ⊥) → checkRun image lent (inEdition 1 terms) ≡ 0 → Refused lent 36 r
-  pub edition-after : (checkRun image lent (inEdition 1 terms) ≡ 0 → ⊥) → Refused lent (checkRun image lent (inEdition 1 terms)) r
+  -- 02, 6: "an edition other than 1 or 2 gives 36 (unknown edition), after 31": whatever refuses the run in edition 1 and by way 0 comes first
+  pub refuses-edition : (terms .edition ≡ 1 → ⊥) → (terms .edition ≡ 2 → ⊥) → checkRun image lent (inEdition 1 (byWay 0 terms)) ≡ 0 → Refused lent 36 r
+  pub edition-after : (checkRun image lent (inEdition 1 (byWay 0 terms)) ≡ 0 → ⊥) → Refused lent (checkRun image lent (inEdition 1 (byWay 0 terms))) r
+  -- 02, 7: "a way other than 0 or 1 gives 37 (unknown way), after 36": whatever refuses the run by way 0 comes first
+  pub refuses-way : (terms .way ≡ 0 → ⊥) → (terms .way ≡ 1 → ⊥) → checkRun image lent (byWay 0 terms) ≡ 0 → Refused lent 37 r
+  pub way-after : (checkRun image lent (byWay 0 terms) ≡ 0 → ⊥) → Refused lent (checkRun image lent (byWay 0 terms)) r
   pub judged : checkRun image lent terms ≡ 0 → Rules image lent (terms .edition) r
   -- "Any other run stops at the very step where 01's machine lacks steps or room."
   pub ended : checkRun image lent terms ≡ 0 → RunEnded image lent terms r
@@ -139,6 +147,19 @@ pub record WalkPromises (n : ℕ) (rows : List Row) (X walked : ℕ) : Type 0 wh
   pub least : (fewer : ℕ) → fewer < walked → T (bringAllIn n rows X fewer) → ⊥
   -- "The set stays the same."
   pub same-set : backward (take walked rows) X ≡ backward rows X
+
+-- 02, 7: the promises of the sets that are left of some cases once X's states are taken away
+pub record CountedOnce (X : ℕ) (cases sets : List ℕ) : Type 0 where
+  pub left-of-case : Each (λ set. T (any (λ case. eqb (without case X) set) cases)) sets
+  -- "equal ones count once, empty ones not at all"
+  pub none-empty : 0 ∈ sets → ⊥
+  pub once : Each (λ case. (without case X ≡ 0 → ⊥) → length (keep (eqb (without case X)) sets) ≡ 1) cases
+
+-- 02, 7: "the state that meets most of those not yet met, lowest number on ties": of n states
+pub record MeetsMost (n : ℕ) (sets : List ℕ) (q : ℕ) : Type 0 where
+  pub is-state : q < n
+  pub most : (p : ℕ) → p < n → meets sets p ≤ meets sets q
+  pub lowest : (p : ℕ) → p < q → meets sets p < meets sets q
 
 -- 02, 1: the promises of the print of a word's run into a room
 pub record PrintPromises (image word room : List ℕ) (answer : Answer) : Type 0 where
@@ -181,7 +202,8 @@ pub record Promises : Type 0 where
   pub word-test-same : (image other word : List ℕ) → Valid image → Valid other → HoldOne image other → wordTest image word ≡ wordTest other word
   -- every run keeps its promises, whatever it is lent
   pub runs : (image : List ℕ) (lent : Lent) (terms : Terms) → RunPromises image lent terms (runOf image lent terms)
-  -- "Whatever hints, rooms and allowances, two runs on one valid automaton that reach a verdict agree", within one edition
+  -- "Whatever hints, rooms and allowances, two runs on one valid automaton that reach a verdict agree", within one edition; 02, 7: "The two-run rule ..
+  -- both ways, mixed too"
   pub runs-agree : (image other : List ℕ) (lent lent′ : Lent) (terms terms′ : Terms) → HoldOne image other → terms .edition ≡ terms′ .edition
       → Verdict (terms .edition) (runOf image lent terms .number) → Verdict (terms .edition) (runOf other lent′ terms′ .number)
       → Agreed (runOf image lent terms) (runOf other lent′ terms′)
@@ -192,6 +214,16 @@ pub record Promises : Type 0 where
   pub block-unpends : (image : List ℕ) (rooms : Rooms) (terms : Terms) (X : Pending) (rest : List Pending) (c d : Configuration) → Valid image
       → WorksIn (systemOf image) rooms (terms .edition) (givenOf image terms) c → c .pending ≡ X ∷ rest → step (systemOf image) (givenOf image terms) c ≡ blocks d
       → d .pending ≡ rest
+  -- 02, 7: "Show that it passes the block test whenever X does": for either way, every table, level and X
+  pub grows-passing : (image : List ℕ) (way : ℕ) (table : List Blocker) (below X : ℕ) → Valid image → T (passes (systemOf image) table below X X)
+      → T (passes (systemOf image) table below X (growthOf way (systemOf image) (rowsOf image) table below X))
+  -- "as every X that a run from its begin grows does": whatever a step blocks, one level above `below`
+  pub blocked-passes : (image : List ℕ) (rooms : Rooms) (terms : Terms) (X : Pending) (rest : List Pending) (c d : Configuration) → Valid image
+      → WorksIn (systemOf image) rooms (terms .edition) (givenOf image terms) c → c .pending ≡ X ∷ rest → step (systemOf image) (givenOf image terms) c ≡ blocks d
+      → T (passes (systemOf image) (c .table) (c .level - suc (length rest)) (X .case) (X .case))
+  -- 02, 7: what is counted, and which state is picked
+  pub counts-once : (X : ℕ) (cases : List ℕ) → CountedOnce X cases (withCases X [] cases)
+  pub picks-most : (n : ℕ) (sets : List ℕ) → 1 ≤ n → MeetsMost n sets (best n sets)
   -- 02, 10, of every table that a run comes to on its way
   pub entered-in-order : (image : List ℕ) (rooms : Rooms) (terms : Terms) (c : Configuration) → Valid image
       → WorksIn (systemOf image) rooms (terms .edition) (givenOf image terms) c → EnteredInOrder 0 (c .steps) (c .table)

@@ -8,9 +8,10 @@ use Rattle.lists.specs.Tests.{_or_, neg}
 use Rattle.automata.specs.Image.{statesOf, symbolsOf, initialOf, finalOf, rowsOf, check, checkImage}
 use Rattle.automata.specs.Automaton.{backward}
 use Rattle.machine.specs.System.{System}
-use Rattle.machine.specs.Machine.{Given, Rooms, byStates, Next, goesOn, ends, comesTo, machine}
+use Rattle.machine.specs.Machine.{Given, Rooms, Next, goesOn, ends, comesTo, machine}
 use Rattle.machine.specs.Machine.{nonempty, empty, stepsLack, blockersLack, wordLacks, startsFinal}
 use Rattle.machine.specs.Lent.{BlockerRoom, columnBack, caseOf, symbolOf, placed, eachTable, withTable}
+use Rattle.machine.specs.Hitting.{growthOf}
 
 -- the backward system of an image: F is its one final case
 abbrev pub systemOf : List ℕ → System
@@ -36,18 +37,19 @@ zeroed lent = record {
   symbols = replicate (length (lent .symbols)) 0;
 }
 
--- what a run is given beside the image and the rooms: "hints (read only) and an allowance"; 02, 6: "A run gets an edition"
+-- what a run is given beside the image and the rooms: "hints (read only) and an allowance"; 02, 6: "A run gets an edition"; and 02, 7, a way to grow
 pub record Terms : Type 0 where
   pub hints : List ℕ
   pub allowance : ℕ
   pub edition : ℕ
+  pub way : ℕ
 
 -- what a step on the image is given, and what a run's terms give each of its steps: the edition is the start's alone
-abbrev pub stepGiven : List ℕ → List ℕ → ℕ → Given
-stepGiven image hints allowance = record { grow = byStates (systemOf image); hints = hints; allowance = allowance }
+abbrev pub stepGiven : List ℕ → List ℕ → ℕ → ℕ → Given
+stepGiven image hints allowance way = record { grow = growthOf way (systemOf image) (rowsOf image); hints = hints; allowance = allowance }
 
 abbrev pub givenOf : List ℕ → Terms → Given
-givenOf image terms = stepGiven image (terms .hints) (terms .allowance)
+givenOf image terms = stepGiven image (terms .hints) (terms .allowance) (terms .way)
 
 -- "It returns five numbers: the number, steps made, level, blockers held, hints accepted"; and what the lent tables then hold
 pub record Result : Type 0 where
@@ -120,13 +122,18 @@ oversize lent hints = ltb 65536 (length (lent .room .masks)) or ltb 65536 (lengt
 unfoldable pub unknownEdition : ℕ → Bool
 unknownEdition edition = neg (eqb edition 1 or eqb edition 2)
 
--- the image's checks, then 30, 31 and 36; 0 where none applies
-unfoldable pub checkTerms : Lent → List ℕ → ℕ → ℕ → ℕ
-checkTerms lent hints edition zero = check (oddRooms lent) 30 (check (oversize lent hints) 31 (check (unknownEdition edition) 36 0))
-checkTerms lent hints edition (suc number) = suc number
+-- 37: "a way other than 0 or 1"
+unfoldable pub unknownWay : ℕ → Bool
+unknownWay way = neg (eqb way 0 or eqb way 1)
+
+-- the image's checks, then 30, 31, 36 and 37; 0 where none applies
+unfoldable pub checkTerms : Lent → List ℕ → ℕ → ℕ → ℕ → ℕ
+checkTerms lent hints edition way zero =
+    check (oddRooms lent) 30 (check (oversize lent hints) 31 (check (unknownEdition edition) 36 (check (unknownWay way) 37 0)))
+checkTerms lent hints edition way (suc number) = suc number
 
 unfoldable pub checkRun : List ℕ → Lent → Terms → ℕ
-checkRun image lent terms = checkTerms lent (terms .hints) (terms .edition) (checkImage image)
+checkRun image lent terms = checkTerms lent (terms .hints) (terms .edition) (terms .way) (checkImage image)
 
 -- the end of the run of 01's machine on the image, in rooms of so many places
 abbrev pub roomsOf : Lent → Rooms

@@ -1,5 +1,5 @@
--- The lines of 01's "Models and what they give" that are marked *, as one list, with 02's third number of a blocker: "2 for A, 2 for C", and D in
--- edition 2. Assumes nothing: these are definitions.
+-- The lines of 01's "Models and what they give" that are marked *, as one list, with 02's third number of a blocker: "2 for A, 2 for C", D in
+-- edition 2, and C by way 1. Assumes nothing: these are definitions.
 use Prim.Native.Nat.{ℕ}
 use mathlib.Core.Path.{_≡_}
 use mathlib.Core.List.{List, [], _∷_}
@@ -42,9 +42,9 @@ pub data Line : Type 0 where
 abbrev lent : List ℕ → List ℕ → Lent
 lent blockers word = record { room = roomOf blockers blockers blockers; cases = word; symbols = word }
 
--- hints and an allowance, 256 where the line names none, 4^(n+1) for n 3; edition 1, which answers as 01 does
+-- hints and an allowance, 256 where the line names none, 4^(n+1) for n 3; edition 1 and way 0, which are as 01 has it
 abbrev terms : List ℕ → ℕ → Terms
-terms hints allowance = record { hints = hints; allowance = allowance; edition = 1 }
+terms hints allowance = record { hints = hints; allowance = allowance; edition = 1; way = 0 }
 
 abbrev three : List ℕ
 three = 9 ∷ 9 ∷ 9 ∷ []
@@ -94,7 +94,9 @@ starred =
     -- "D, allowance 0: 1 0 0 0 0."
     ∷ run D (lent three three) (terms [] 0) (gives 1 0 0 0 0 noBlockers none none)
     -- 02, 6: "2 answers such a start by 5 (crossed at open), no steps, the rooms all 0"
-    ∷ run D (lent three three) (record { hints = []; allowance = 0; edition = 2 }) (gives 5 0 0 0 0 noBlockers none none)
+    ∷ run D (lent three three) (record { hints = []; allowance = 0; edition = 2; way = 0 }) (gives 5 0 0 0 0 noBlockers none none)
+    -- 02, 7: X is 0, what is forbidden is state 0 by I and the states 1 and 2 by the row (0, 6); 0 and then 1 are picked, and the blocker is 4
+    ∷ run C (lent three three) (record { hints = []; allowance = 256; edition = 1; way = 1 }) (gives 1 6 2 1 0 (one 4 1 2) none (0 ∷ 1 ∷ 0 ∷ []))
     -- "Word test on C: 0 1 yes; 1 0 no; the empty word no; symbol 2 gives 32."
     ∷ test C (0 ∷ 1 ∷ []) 1
     ∷ test C (1 ∷ 0 ∷ []) 0

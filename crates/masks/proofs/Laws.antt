@@ -17,7 +17,7 @@ use Rattle.lists.specs.Tests.{choose}
 use Rattle.lists.specs.Lists.{firstFrom}
 use Rattle.lists.proofs.Tests.{holds, fails, same-test, decide, and-left, and-right, and-both, neg-fails, fails-neg}
 use Rattle.lists.proofs.Lists.{first-from-some, first-from-least}
-use Rattle.masks.specs.Sets.{digit, Member, member, subset, union, single, full, within, absent, lowestAbsent}
+use Rattle.masks.specs.Sets.{digit, Member, member, subset, union, without, single, full, within, absent, lowestAbsent}
 use Rattle.masks.proofs.Digits.{digit-and, digit-or, digit-xor, digit-zero, same-digits, digit-power-self, digit-power-other, digit-above}
 use Rattle.masks.proofs.Digits.{below-power, trailing-set, trailing-zero}
 
@@ -57,9 +57,13 @@ pub subset-antisymmetric : (a b : ℕ) → T (subset a b) → T (subset b a) →
 unfolding subset
 subset-antisymmetric a b h k = sym (eqb→eq (bitAnd a b) a h) ∙ and-comm a b ∙ eqb→eq (bitAnd b a) b k
 
--- no state is in the empty set
+-- no state is in the empty set, and in no other
 pub empty-members : (q : ℕ) → Member q 0 → ⊥
 empty-members q i = omega (arith, digit-zero q)
+
+pub no-members : (set : ℕ) → ((q : ℕ) → Member q set → ⊥) → set ≡ 0
+no-members set f =
+    subset-antisymmetric set 0 (members-subset set 0 (λ q i. absurd (f q i))) (members-subset 0 set (λ q i. absurd (empty-members q i)))
 
 -- union: a state is in it exactly if it is in either set
 pub union-members : (a b q : ℕ) → Member q (union a b) ↔ (Member q a ⊎ Member q b)
@@ -76,6 +80,31 @@ union-members a b q = (to, from)
     from : Member q a ⊎ Member q b → Member q (bitOr a b)
     from (inl h) = digit-or a b q ∙ omega arith
     from (inr h) = digit-or a b q ∙ omega arith
+
+-- without: a state is in it exactly if it is in the first set and not in the second
+pub without-members : (a b q : ℕ) → Member q (without a b) ↔ (Member q a × (Member q b → ⊥))
+unfolding without
+without-members a b q = (
+  λ m. to (digit a q) (digit b q) (digit (bitAnd a b) q) (digit-and a b q) (omega arith) (sym digits ∙ m),
+  λ h. digits ∙ from (digit a q) (digit b q) (digit (bitAnd a b) q) (digit-and a b q) (omega arith) (h .0) (h .1),
+)
+  where
+    digits : digit (bitXor (bitAnd a b) a) q ≡ differ (digit (bitAnd a b) q) (digit a q)
+    digits = digit-xor (bitAnd a b) a q
+
+    to : (x y both : ℕ) → both ≡ min x y → x < 2 → differ both x ≡ 1 → (x ≡ 1) × (y ≡ 1 → ⊥)
+    to zero y zero m l e = absurd (omega arith)
+    to (suc x) y zero m l e = (e, λ h. omega arith)
+    to zero y (suc both) m l e = absurd (omega arith)
+    to (suc zero) y (suc zero) m l e = absurd (omega arith)
+    to (suc zero) y (suc (suc both)) m l e = absurd (omega arith)
+    to (suc (suc x)) y (suc both) m l e = absurd (omega arith)
+
+    from : (x y both : ℕ) → both ≡ min x y → y < 2 → x ≡ 1 → (y ≡ 1 → ⊥) → differ both x ≡ 1
+    from x zero zero m l e f = e
+    from x zero (suc both) m l e f = absurd (omega arith)
+    from x (suc zero) both m l e f = absurd (f refl)
+    from x (suc (suc y)) both m l e f = absurd (omega arith)
 
 -- single: its one state
 pub single-members : (q p : ℕ) → Member p (single q) ↔ (p ≡ q)
@@ -129,6 +158,17 @@ full-members n q = (
   within-members n (full n) (full-within n) q,
   λ l. subset-members (single q) (full n) (within-full n (single q) (single-within n q l)) q (single-members q q .1 refl),
 )
+
+-- of the n states those that are not in a set
+pub others-members : (n set q : ℕ) → Member q (without (full n) set) ↔ ((q < n) × (Member q set → ⊥))
+others-members n set q =
+    let each = without-members (full n) set q in (
+      λ m. let h = each .0 m in (full-members n q .0 (h .0), h .1),
+      λ h. each .1 (full-members n q .1 (h .0), h .1),
+    )
+
+pub others-within : (n set : ℕ) → T (within n (without (full n) set))
+others-within n set = members-within n (without (full n) set) (λ q m. others-members n set q .0 m .0)
 
 -- what the machine's shifts compute
 pub shifted-one : (width q : ℕ) → q < width → (1 * 2 ^ q) % 2 ^ width ≡ single q
@@ -206,48 +246,34 @@ none-absent a b f = members-subset a b (λ q i. not-absent a b q i (f q))
 pub one-absent : (a b q : ℕ) → T (absent a b q) → T (subset a b) → ⊥
 one-absent a b q t s = let lacking = absent-means a b q .0 t in lacking .1 (subset-members a b s q (lacking .0))
 
--- the states of a that are absent from b, as the machine computes them
-missing-absent : (a b q : ℕ) → Member q (bitXor (bitAnd a b) a) ↔ T (absent a b q)
-missing-absent a b q = (
-  λ m. absent-means a b q .1 (to (digit a q) (digit b q) (digit (bitAnd a b) q) (digit-and a b q) (omega arith) (sym digits ∙ m)),
-  λ t. let h = absent-means a b q .0 t in digits ∙ from (digit a q) (digit b q) (digit (bitAnd a b) q) (digit-and a b q) (omega arith) (h .0) (h .1),
-)
-  where
-    digits : digit (bitXor (bitAnd a b) a) q ≡ differ (digit (bitAnd a b) q) (digit a q)
-    digits = digit-xor (bitAnd a b) a q
+-- the states of a without b are those that the test finds absent
+without-absent : (a b q : ℕ) → Member q (without a b) ↔ T (absent a b q)
+without-absent a b q = (λ m. absent-means a b q .1 (without-members a b q .0 m), λ t. without-members a b q .1 (absent-means a b q .0 t))
 
-    to : (x y both : ℕ) → both ≡ min x y → x < 2 → differ both x ≡ 1 → (x ≡ 1) × (y ≡ 1 → ⊥)
-    to zero y zero m l e = absurd (omega arith)
-    to (suc x) y zero m l e = (e, λ h. omega arith)
-    to zero y (suc both) m l e = absurd (omega arith)
-    to (suc zero) y (suc zero) m l e = absurd (omega arith)
-    to (suc zero) y (suc (suc both)) m l e = absurd (omega arith)
-    to (suc (suc x)) y (suc both) m l e = absurd (omega arith)
+-- where none is left, a is a subset of b
+pub nothing-left : (a b : ℕ) → without a b ≡ 0 → T (subset a b)
+nothing-left a b e = none-absent a b (λ q t. empty-members q (subst (Member q) e (without-absent a b q .1 t)))
 
-    from : (x y both : ℕ) → both ≡ min x y → y < 2 → x ≡ 1 → (y ≡ 1 → ⊥) → differ both x ≡ 1
-    from x zero zero m l e f = e
-    from x zero (suc both) m l e f = absurd (omega arith)
-    from x (suc zero) both m l e f = absurd (f refl)
-    from x (suc (suc y)) both m l e f = absurd (omega arith)
-
-pub missing-tested : (a b q : ℕ) (test : Bool) → test ≡ member q (bitXor (bitAnd a b) a) → test ≡ absent a b q
-missing-tested a b q test e =
+-- a state is one of them by the test of the code
+pub without-tested : (a b q missing : ℕ) (test : Bool) → missing ≡ without a b → test ≡ member q missing → test ≡ absent a b q
+without-tested a b q missing test m e =
     e
-    ∙ same-test (member q (bitXor (bitAnd a b) a)) (absent a b q) (λ t. missing-absent a b q .0 (member-means q _ .0 t))
-    (λ t. member-means q _ .1 (missing-absent a b q .1 t))
+    ∙ ap (member q) m
+    ∙ same-test (member q (without a b)) (absent a b q) (λ t. without-absent a b q .0 (member-means q _ .0 t))
+    (λ t. member-means q _ .1 (without-absent a b q .1 t))
 
 -- the lowest of them stands above the zeros at the end, of which there are few
 pub trailing-fits : (a : ℕ) → trailingZeros 64 a < 2 ^ 8
 trailing-fits a = omega (arith, trailing-le 64 a)
 
-pub lowest-trailing : (a b : ℕ) → a < 2 ^ 64 → subset a b ≡ false → lowestAbsent a b ≡ some (trailingZeros 64 (bitXor (bitAnd a b) a))
+pub lowest-trailing : (a b missing : ℕ) → a < 2 ^ 64 → subset a b ≡ false → missing ≡ without a b → lowestAbsent a b ≡ some (trailingZeros 64 missing)
 unfolding lowestAbsent
-lowest-trailing a b l f =
-    first-from-least (absent a b) 64 0 lowest (omega arith) (omega (arith, there)) (missing-absent a b lowest .0 (trailing-set 64 missing there))
-    (λ p m k t. let d = trailing-zero 64 missing p k in let e = missing-absent a b p .1 t in omega arith)
+lowest-trailing a b missing l f e =
+    first-from-least (absent a b) 64 0 lowest (omega arith) (omega (arith, there)) (is-absent lowest .0 (trailing-set 64 missing there))
+    (λ p m k t. let d = trailing-zero 64 missing p k in let one = is-absent p .1 t in omega arith)
   where
-    missing : ℕ
-    missing = bitXor (bitAnd a b) a
+    is-absent : (q : ℕ) → Member q missing ↔ T (absent a b q)
+    is-absent q = rw e (without-absent a b q)
 
     lowest : ℕ
     lowest = trailingZeros 64 missing
@@ -259,7 +285,7 @@ lowest-trailing a b l f =
         at (no n) = omega arith
         at (yes h) =
             absurd (fails f (none-absent a b (λ q t.
-            let e = missing-absent a b q .1 t in
+            let one = is-absent q .1 t in
             let below = digit-above 64 a l q (absent-means a b q .0 t .0) in
             let d = trailing-zero 64 missing q (omega (arith, h)) in
             omega arith)))

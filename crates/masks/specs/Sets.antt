@@ -6,7 +6,7 @@ use mathlib.Core.Path.{_≡_}
 use mathlib.Core.Bool.{Bool}
 use mathlib.Core.Option.{Option}
 use lib.Dec.{eqb, ltb}
-use lib.Bits.{bitAnd, bitOr}
+use lib.Bits.{bitAnd, bitOr, bitXor}
 use Rattle.lists.specs.Tests.{_and_, neg}
 use Rattle.lists.specs.Lists.{firstFrom}
 
@@ -29,6 +29,10 @@ subset a b = eqb (bitAnd a b) a
 -- the states of either set
 unfoldable pub union : ℕ → ℕ → ℕ
 union a b = bitOr a b
+
+-- the states of the first set that are not in the second
+unfoldable pub without : ℕ → ℕ → ℕ
+without a b = bitXor (bitAnd a b) a
 
 -- the set of state q alone
 unfoldable pub single : ℕ → ℕ

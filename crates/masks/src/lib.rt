@@ -5,6 +5,7 @@ ghost use mathlib.Core.Option.{some};
 ghost use Prim.Native.Nat.{_≤_, _<_};
 ghost use Rattle.lists.specs.Tests.{choose};
 ghost use Rattle.masks.specs.Sets.{subset as isSubset, member as isMember, within as isWithin, absent as isAbsent};
+ghost use Rattle.masks.specs.Sets.{without as setWithout};
 ghost use Rattle.masks.specs.Sets.{union, single, full as fullSet, lowestAbsent};
 
 // A state's number.
@@ -37,7 +38,14 @@ pub fn absent(q: State, a: u64, b: u64) -> bool
     requires { ⌜ q .0 < 64 ⌝ }
     ensures { λ r. ⌜ r ≡ isAbsent a b (q .0) ⌝ }
 {
-    member(q, a & b ^ a)
+    member(q, without(a, b))
+}
+
+// The states of a that are not in b.
+pub fn without(a: u64, b: u64) -> u64
+    ensures { λ r. ⌜ r ≡ setWithout a b ⌝ }
+{
+    a & b ^ a
 }
 
 // The set with the state q put in.
@@ -82,6 +90,5 @@ pub fn lowest_absent(a: u64, b: u64) -> State
     requires { ⌜ isSubset a b ≡ false ⌝ }
     ensures { λ r. ⌜ lowestAbsent a b ≡ some (r .0) ⌝ }
 {
-    let missing = a & b ^ a;
-    State(u64::trailing_zeros(missing) as u8)
+    State(u64::trailing_zeros(without(a, b)) as u8)
 }

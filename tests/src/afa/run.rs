@@ -27,6 +27,7 @@ pub mod interface {
             hints_len: usize,
             allowance: u64,
             edition: u64,
+            way: u64,
             counts: *mut u64,
         ) -> u64;
     }
@@ -53,30 +54,32 @@ pub fn run(image: &[u8], rooms: Rooms, terms: Terms<&[u64]>, counts: &mut [u64; 
             terms.hints.len(),
             terms.allowance,
             terms.edition,
+            terms.way,
             counts.as_mut_ptr(),
         )
     }
 }
 
-/// `afa_run` with five tables and hints of these lengths that may not be touched, for what must be
-/// refused.
+/// `afa_run` with five tables and hints of these lengths that may not be touched, and with an edition and
+/// a way, for what must be refused.
 pub fn run_untouchable(
     image: &[u8],
     lengths: [usize; 6],
-    edition: u64,
+    [edition, way]: [u64; 2],
     memory: &Untouchable,
     edge: Edge,
     counts: &mut [u64; 4],
 ) -> u64 {
     let [masks, levels, entered, cases, symbols, hints] = lengths;
     let shown = lengths.map(usize::to_be_bytes);
-    let lent: [fault::Lent; 3] = [
+    let lent: [fault::Lent; 4] = [
         ("image", image),
         (
             "lengths of masks, levels, entered, cases, symbols and hints",
             shown.as_flattened(),
         ),
         ("edition", &edition.to_be_bytes()),
+        ("way", &way.to_be_bytes()),
     ];
     // SAFETY: the pointers are to as many values as the lengths say; whoever touches them ends in a
     // signal, which is what is tested.
@@ -98,6 +101,7 @@ pub fn run_untouchable(
             hints,
             100,
             edition,
+            way,
             counts.as_mut_ptr(),
         )
     })
@@ -174,7 +178,7 @@ impl Runner {
                 symbols: &mut *symbols,
             };
             let lengths = before.lengths().map(usize::to_be_bytes);
-            let lent: [fault::Lent; 5] = [
+            let lent: [fault::Lent; 6] = [
                 ("image", image),
                 (
                     "lengths of masks, levels, entered, cases and symbols",
@@ -182,6 +186,7 @@ impl Runner {
                 ),
                 ("allowance", &terms.allowance.to_be_bytes()),
                 ("edition", &terms.edition.to_be_bytes()),
+                ("way", &terms.way.to_be_bytes()),
                 ("hints, lowest byte first", bytes_of(hints)),
             ];
             fault::on_record("afa_run", &lent, || run(image, rooms, terms, counts))

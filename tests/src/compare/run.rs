@@ -16,6 +16,8 @@ pub struct Seen {
     pub extended: usize,
     pub blocked: usize,
     pub by_hint: usize,
+    /// Blockers grown by each way.
+    pub grown: [usize; 2],
     /// Blocks at which some left.
     pub left: usize,
     /// Blocks into a full table.
@@ -30,10 +32,11 @@ pub struct Seen {
 }
 
 impl Seen {
-    fn event(&mut self, event: Event) {
+    fn event(&mut self, event: Event, way: u64) {
         match event {
             Event::Opened { pending } => self.opened_blocked += usize::from(!pending),
             Event::Extended { .. } => self.extended += 1,
+            Event::Grown { .. } => self.grown[way as usize] += 1,
             Event::Blocked {
                 by_hint,
                 left,
@@ -88,8 +91,8 @@ impl Display for Seen {
         write!(
             out,
             "; at most {} steps, level {}, {} blockers; {} extends, {} blocks, of which {} by hint, \
-             {} where some left, {} into a full table; {} closes, {} opens with F blocked; {} rises, \
-             {} where some left before, {} behind",
+             {} where some left, {} into a full table; {} grown by way 0, {} by way 1; {} closes, {} \
+             opens with F blocked; {} rises, {} where some left before, {} behind",
             self.most_steps,
             self.highest_level,
             self.most_blockers,
@@ -98,6 +101,8 @@ impl Display for Seen {
             self.by_hint,
             self.left,
             self.room_by_leaving,
+            self.grown[0],
+            self.grown[1],
             self.closed,
             self.opened_blocked,
             self.rose,
@@ -118,17 +123,20 @@ impl Comparison {
     pub fn run(&mut self, image: &[u8], lent: &Lent, origin: &dyn Display) -> (Answer, Tables) {
         let mut tables = lent.before.clone();
         let terms = lent.terms.lend();
-        let answer =
-            machine::observed_run(image, tables.lend(), terms, |event| self.seen.event(event));
+        let answer = machine::observed_run(image, tables.lend(), terms, |event| {
+            self.seen.event(event, terms.way)
+        });
         self.seen.answer(&answer);
         let answered = self.runner.run(image, &lent.before, terms);
         assert!(
             answered.0 == answer && answered.1 == tables,
             "afa_run\n{origin}\nimage {}\nlengths of masks, levels, entered, cases and symbols \
-             {:?}, edition {}, allowance {}, {} hints {:x?}\nexpected {answer:?}\n     got {:?}{}",
+             {:?}, edition {}, way {}, allowance {}, {} hints {:x?}\nexpected {answer:?}\n     got \
+             {:?}{}",
             hexadecimal(image),
             lent.before.lengths(),
             terms.edition,
+            terms.way,
             terms.allowance,
             terms.hints.len(),
             &terms.hints[..terms.hints.len().min(200)],

@@ -3,7 +3,7 @@
 use super::runs::Earlier;
 use crate::image::{all_states, Model};
 use crate::random::Random;
-use crate::tables::Terms;
+use crate::tables::{Terms, WAYS};
 
 /// Hints for the blocks that an earlier run of the model made: case and blocker of each.
 pub fn hints(random: &mut Random, model: &Model, blocks: &[(u64, u64)]) -> Vec<u64> {
@@ -21,12 +21,14 @@ pub fn hints(random: &mut Random, model: &Model, blocks: &[(u64, u64)]) -> Vec<u
     (0..count).map(hint).collect()
 }
 
-/// Hints that pass all, each made for the run that those before it lead to, until that run ends.
+/// Hints that pass all, each made for the run that those before it lead to, until that run ends. They
+/// pass by either way, as no blocker is grown before the last of them is taken.
 pub fn passing_hints(random: &mut Random, image: &[u8], most: usize) -> Vec<u64> {
     let mut hints = Vec::new();
     while hints.len() < most {
         let terms = Terms {
             hints: &hints[..],
+            way: random.pick(&WAYS),
             ..Terms::plain(u64::MAX)
         };
         let earlier = Earlier::new(image, terms);
@@ -39,7 +41,8 @@ pub fn passing_hints(random: &mut Random, image: &[u8], most: usize) -> Vec<u64>
     hints
 }
 
-/// The case, the blocker, or a set between the two at which growth came by: each passes at its block.
+/// The case, the blocker, or a set between the two: one at which growth state by state came by, or of a
+/// blocker grown through a hitting set any. Each passes at its block.
 fn good_hint(random: &mut Random, case: u64, blocker: u64) -> u64 {
     let tried = u64::MAX >> random.below(64);
     random.pick(&[case, blocker, blocker, case | blocker & tried])

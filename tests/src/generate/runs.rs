@@ -5,9 +5,9 @@ use super::{
     case_by_chance, large_cases, near_permutations, scattered, several_each, size, small_case,
 };
 use crate::image::Model;
-use crate::machine::{observed_run, Event};
+use crate::machine::{observed_run, run_without_entered, Event};
 use crate::random::Random;
-use crate::tables::{Answer, Lent, Tables, Terms, EDITIONS};
+use crate::tables::{Answer, Lent, Tables, Terms, EDITIONS, WAYS};
 
 pub fn run_model(random: &mut Random) -> Model {
     if random.below(1_000) == 0 {
@@ -55,6 +55,31 @@ pub fn run_model_of(random: &mut Random, states: usize, symbols: usize) -> Model
     }
 }
 
+/// Of the models of 24 to 64 states and 1 to 8 symbols that the seeds 0, 1, 2, .. give, the first 20,
+/// with their seeds, whose runs make 1,000 steps or more of the 4,000 allowed, in rooms of 1,024
+/// places. At most 8 may end by the same number, as most would else fill blocker room.
+pub fn long_runs() -> Vec<(u64, Model)> {
+    let mut models = Vec::new();
+    let mut by_number = [0; 5];
+    for seed in 0.. {
+        let mut random = Random::seeded(seed);
+        let (states, symbols) = (random.within(24..=64), random.within(1..=8));
+        let model = run_model_of(&mut random, states, symbols);
+        let mut tables = Tables::cleared(1024, 1024);
+        let answer = run_without_entered(&model.image(), tables.lend(), Terms::plain(4_000));
+        let ended_so = &mut by_number[answer.number as usize];
+        if answer.steps < 1_000 || *ended_so == 8 {
+            continue;
+        }
+        *ended_so += 1;
+        models.push((seed, model));
+        if models.len() == 20 {
+            break;
+        }
+    }
+    models
+}
+
 /// An edition that there is not. Cut down to its lowest bits, it often is one that there is.
 pub fn unknown_edition(random: &mut Random) -> u64 {
     let known = random.pick(&EDITIONS);
@@ -67,6 +92,18 @@ pub fn unknown_edition(random: &mut Random) -> u64 {
     }
 }
 
+/// A way that there is not. Cut down to its lowest bits, it often is one that there is.
+pub fn unknown_way(random: &mut Random) -> u64 {
+    let known = random.pick(&WAYS);
+    match random.below(8) {
+        0 => 2,
+        1 => 3,
+        2 | 3 => known | 1 << random.within(1..=63),
+        4 | 5 => known | random.number() << random.pick(&[8, 16, 32]) | 1 << 63,
+        _ => random.number() | 2,
+    }
+}
+
 /// A number of steps that does not take long: a block tries each state with each row.
 pub fn affordable_steps(model: &Model, row_tests: usize) -> u64 {
     let block = model.states * model.row_count().max(16);
@@ -75,6 +112,7 @@ pub fn affordable_steps(model: &Model, row_tests: usize) -> u64 {
 
 /// What a run of the machine was like.
 pub struct Earlier {
+    pub way: u64,
     pub answer: Answer,
     /// The case and the blocker of each block in turn.
     pub blocks: Vec<(u64, u64)>,
@@ -105,20 +143,33 @@ impl Earlier {
             _ => {}
         });
         Earlier {
+            way: terms.way,
             answer,
             blocks,
             most_held,
         }
     }
+
+    /// The same without hints and by either way.
+    pub fn of_either_way(random: &mut Random, image: &[u8], allowance: u64) -> Self {
+        let terms = Terms {
+            way: random.pick(&WAYS),
+            ..Terms::plain(allowance)
+        };
+        Self::new(image, terms)
+    }
 }
 
-/// Rooms, hints and an allowance about those that the earlier run used, and either edition. No run with
-/// these takes much longer than `affordable` steps.
+/// Rooms, hints and an allowance about those that the earlier run used, either edition, and mostly the
+/// way of the earlier run. No run with these takes much longer than `affordable` steps.
 pub fn lent(random: &mut Random, model: &Model, earlier: &Earlier, affordable: u64) -> Lent {
     let blocker_room = room(random, earlier.most_held);
     let word_room = room(random, earlier.answer.level as usize);
     let hints = hints(random, model, &earlier.blocks);
-    let ends = earlier.answer.is_verdict() && hints.is_empty() || blocker_room.min(word_room) < 8;
+    let any_way = random.pick(&WAYS);
+    let way = random.pick(&[earlier.way, any_way]);
+    let as_before = hints.is_empty() && way == earlier.way;
+    let ends = earlier.answer.is_verdict() && as_before || blocker_room.min(word_room) < 8;
     let steps = earlier.answer.steps;
     let allowance = match random.below(8) {
         0 => random.below(6) as u64,
@@ -136,6 +187,7 @@ pub fn lent(random: &mut Random, model: &Model, earlier: &Earlier, affordable: u
             hints,
             allowance,
             edition,
+            way,
         },
     }
 }

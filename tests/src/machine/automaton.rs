@@ -53,6 +53,12 @@ impl<'a> Automaton<'a> {
         self.symbols
     }
 
+    /// The state and the case of each row by the symbol.
+    pub fn rows(&self, symbol: usize) -> impl Iterator<Item = (u8, u64)> + 'a {
+        let row = |&[state, ref case @ ..]: &RowBytes| (state, u64::from_le_bytes(*case));
+        self.rows[symbol].iter().map(row)
+    }
+
     /// "The backward set of a case X by symbol s is the set of states with a row by s whose case is a
     /// subset of X."
     pub fn backward_set(&self, symbol: usize, case: u64) -> u64 {

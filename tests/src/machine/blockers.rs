@@ -51,6 +51,19 @@ impl<'a, Entered: EnteredTable> Blockers<'a, Entered> {
         self.first(0..self.held, covers).is_some()
     }
 
+    /// The mask of the first blocker, in table order, that is of this level or more and has the case as a
+    /// subset. This walk and that of `cover` are not one: the compiler makes less of a shared one.
+    pub fn first_covering(&self, case: u64, level: u32) -> Option<u64> {
+        let covers = |mask, its_level| (its_level >= level) & contains(mask, case);
+        let place = self.first(0..self.held, covers)?;
+        Some(self.masks[place])
+    }
+
+    /// The masks and the levels that are held.
+    pub fn held(&self) -> (&[u64], &[u32]) {
+        (&self.masks[..self.held], &self.levels[..self.held])
+    }
+
     pub fn hold_level(&self, level: u32) -> bool {
         self.at_level(level, 0).is_some()
     }

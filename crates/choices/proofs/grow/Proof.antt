@@ -1,38 +1,23 @@
+use Rattle.choices.proofs.Growing.{way-first, way-second}
 use borrow.Author.Needs.{needs}
-use Prim.Native.Nat.{_-_}
-use Rattle.machine.specs.Lent.{blockersIn}
-use Rattle.choices.proofs.Growing.{StatesTried, states-start, state-fits, states-go, states-end}
 use Rattle.choices.proofs.grow.Statement.{statement}
 use Rattle.choices.proofs.grow.Tie as tie
 use Rattle.choices.proofs.grow.Reads as reads
 use Rattle.choices.proofs.grow.Lts as lts
-use Rattle.choices.proofs.with_state.Reads as with-state-reads
+use Rattle.choices.proofs.by_states.Reads as by-states-reads
+use Rattle.hitting.proofs.grow.Reads as grow-reads
 
-abbrev Inv-loop : tie.InvT-loop
-Inv-loop image head masks levels below x y₀ q₀ y q = StatesTried image (blockersIn masks levels) (below .0) x (head .states) (q .0) y
+by-states-requires : tie.Need-by-states-requires
+by-states-requires c κs = search needs
 
-abbrev μ-loop : tie.MeasureT-loop
-μ-loop image head masks levels below x y₀ q₀ y q = head .states - q .0
+returns : tie.Need-returns
+returns c = search (way-first, needs)
 
-loop-holds : tie.Need-loop-holds Inv-loop μ-loop
-loop-holds c = search (states-start, needs)
+grow-requires : tie.Need-grow-requires
+grow-requires c κs = search needs
 
-with-state-requires : tie.Need-with-state-requires Inv-loop μ-loop
-with-state-requires c κs = search (state-fits, needs)
-
-add-t10 : tie.Need-add-t10 Inv-loop μ-loop
-add-t10 c = search needs
-
-loop-less : tie.Need-loop-less Inv-loop μ-loop
-loop-less c = search needs
-
-loop-again : tie.Need-loop-again Inv-loop μ-loop
-loop-again c = search (states-go, needs)
-
-returns : tie.Need-returns Inv-loop μ-loop
-returns c = search (states-end, needs)
+returns-2 : tie.Need-returns-2
+returns-2 c = search (way-second, needs)
 
 pub grow-spec : {M : Type 1} → statement M
-grow-spec =
-    tie.close
-    (tie.spec Inv-loop μ-loop loop-holds with-state-requires add-t10 loop-less loop-again returns)
+grow-spec = tie.close (tie.spec by-states-requires returns grow-requires returns-2)

@@ -9,8 +9,8 @@ use Rattle.checker.proofs.run.run.Reads as run-reads
 run-requires : tie.Need-run-requires
 run-requires c κs = search needs
 
-cast-t22 : tie.Need-cast-t22
-cast-t22 c = search needs
+cast-t23 : tie.Need-cast-t23
+cast-t23 c = search needs
 
 same-length : tie.Need-same-length
 same-length c = search needs
@@ -35,7 +35,7 @@ afa-run-spec =
     tie.close
     (tie.spec
     run-requires
-    cast-t22
+    cast-t23
     same-length
     same-length-2
     same-length-3

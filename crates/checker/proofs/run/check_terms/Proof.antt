@@ -5,6 +5,7 @@ use Rattle.checker.proofs.run.check_terms.Statement.{statement}
 use Rattle.checker.proofs.run.check_terms.Tie as tie
 use Rattle.checker.proofs.run.check_terms.Reads as reads
 use Rattle.checker.proofs.run.check_terms.Lts as lts
+use Rattle.checker.proofs.run.check_way.Reads as check-way-reads
 
 returns : tie.Need-returns
 returns c = search (odd-levels, needs)
@@ -24,8 +25,14 @@ returns-5 c = search (over-word, needs)
 returns-6 : tie.Need-returns-6
 returns-6 c = search (over-hints, needs)
 
+check-way-requires : tie.Need-check-way-requires
+check-way-requires c κs = search needs
+
 returns-7 : tie.Need-returns-7
 returns-7 c = search (first-edition, needs)
+
+check-way-requires-2 : tie.Need-check-way-requires-2
+check-way-requires-2 c κs = search needs
 
 returns-8 : tie.Need-returns-8
 returns-8 c = search (second-edition, needs)
@@ -35,4 +42,16 @@ returns-9 c = search (no-edition, needs)
 
 pub check-terms-spec : {M : Type 1} → statement M
 check-terms-spec =
-    tie.close (tie.spec returns returns-2 returns-3 returns-4 returns-5 returns-6 returns-7 returns-8 returns-9)
+    tie.close
+    (tie.spec
+    returns
+    returns-2
+    returns-3
+    returns-4
+    returns-5
+    returns-6
+    check-way-requires
+    check-way-requires-2
+    returns-7
+    returns-8
+    returns-9)

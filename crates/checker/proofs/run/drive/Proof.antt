@@ -11,10 +11,10 @@ use Rattle.checker.proofs.run.count_up.Reads as count-up-reads
 use Rattle.checker.proofs.steps.step.Reads as step-reads
 
 abbrev Inv-loop : tie.InvT-loop
-Inv-loop image head masks₀ levels₀ entered₀ cases₀ symbols₀ hints allowance edition run₀ masks levels entered cases symbols run = Driven image head (lentOf (roomOf masks₀ levels₀ entered₀) cases₀ symbols₀) (termsOf hints allowance edition) (roomOf masks levels entered) cases symbols run
+Inv-loop image head masks₀ levels₀ entered₀ cases₀ symbols₀ hints allowance edition way run₀ masks levels entered cases symbols run = Driven image head (lentOf (roomOf masks₀ levels₀ entered₀) cases₀ symbols₀) (termsOf hints allowance edition way) (roomOf masks levels entered) cases symbols run
 
 abbrev μ-loop : tie.MeasureT-loop
-μ-loop image head masks₀ levels₀ entered₀ cases₀ symbols₀ hints allowance edition run₀ masks levels entered cases symbols run = remaining allowance (run .answer) (run .steps)
+μ-loop image head masks₀ levels₀ entered₀ cases₀ symbols₀ hints allowance edition way run₀ masks levels entered cases symbols run = remaining allowance (run .answer) (run .steps)
 
 begin-requires : tie.Need-begin-requires Inv-loop μ-loop
 begin-requires c κs = search needs

@@ -41,7 +41,7 @@ same-length-7 : tie.Need-same-length-7
 same-length-7 c = search needs
 
 returns-2 : tie.Need-returns-2
-returns-2 c = let start = c .before .before .before .before .before .before .before .before .before .before .before .before .before .before .before .before .before .before .before .before .before .before .before .before .before .before .before .pre in step-works (start .0) (start .1) _ _ (search needs) (search needs)
+returns-2 c = let start = c .before .before .before .before .before .before .before .before .before .before .before .before .before .before .before .before .before .before .before .before .before .before .before .before .before .before .before .pre in step-works (start .0) (start .1) _ _ _ (search needs) (search needs)
 
 close-level-requires : tie.Need-close-level-requires
 close-level-requires c κs = let start = c .before .before .before .before .before .before .before .before .before .before .before .before .before .before .before .pre in (start .0, ready-holds (start .1), search needs, search needs)

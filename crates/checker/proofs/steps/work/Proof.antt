@@ -19,11 +19,11 @@ mul-x c = search needs
 slice-read-x : tie.Need-slice-read-x
 slice-read-x c = search needs
 
-cast-t20 : tie.Need-cast-t20
-cast-t20 c = search needs
+cast-t21 : tie.Need-cast-t21
+cast-t21 c = search needs
 
-sub-t21 : tie.Need-sub-t21
-sub-t21 c = search needs
+sub-t22 : tie.Need-sub-t22
+sub-t22 c = search needs
 
 slice-reshare-prefix-first-symbol : tie.Need-slice-reshare-prefix-first-symbol
 slice-reshare-prefix-first-symbol c = search needs
@@ -65,7 +65,7 @@ same-length-5 : tie.Need-same-length-5
 same-length-5 c = search needs
 
 returns : tie.Need-returns
-returns c = let start = c .before .before .before .before .before .before .before .before .before .before .before .before .before .before .before .before .before .before .before .before .before .before .before .before .before .before .before .before .before .before .before .before .pre in work-blocks (start .0) (start .1) (start .2) _ (c .before .before .before .before .before .before .before .before .before .before .before .before .before .before .before .before .before .before .first-symbol .ensures) (search needs) (search needs)
+returns c = let start = c .before .before .before .before .before .before .before .before .before .before .before .before .before .before .before .before .before .before .before .before .before .before .before .before .before .before .before .before .before .before .before .before .pre in work-blocks (start .0) (start .1) (start .2) _ _ (c .before .before .before .before .before .before .before .before .before .before .before .before .before .before .before .before .before .before .first-symbol .ensures) (search needs) (search needs)
 
 extend-requires : tie.Need-extend-requires
 extend-requires c κs = (search (ready-word, needs), search needs, search needs, search (pend-room, needs))
@@ -83,7 +83,7 @@ same-length-9 : tie.Need-same-length-9
 same-length-9 c = search needs
 
 returns-2 : tie.Need-returns-2
-returns-2 c = let start = c .before .before .before .before .before .before .before .before .before .before .before .before .before .before .before .before .before .before .before .before .before .before .before .before .pre in work-extends (start .0) (start .1) (start .2) _ (c .before .before .before .before .before .before .before .before .before .before .first-symbol .ensures) _ _ (c .before .before .before .before .before .before .before .before .found .given .1) (search needs)
+returns-2 c = let start = c .before .before .before .before .before .before .before .before .before .before .before .before .before .before .before .before .before .before .before .before .before .before .before .before .pre in work-extends (start .0) (start .1) (start .2) _ _ (c .before .before .before .before .before .before .before .before .before .before .first-symbol .ensures) _ _ (c .before .before .before .before .before .before .before .before .found .given .1) (search needs)
 
 pub work-spec : {M : Type 1} → statement M
 work-spec =
@@ -92,8 +92,8 @@ work-spec =
     sub-x
     mul-x
     slice-read-x
-    cast-t20
-    sub-t21
+    cast-t21
+    sub-t22
     slice-reshare-prefix-first-symbol
     slice-aggregate-first-symbol
     slice-reshare-prefix-first-symbol-2

@@ -1,0 +1,63 @@
+use Rattle.machine.specs.Lent.{blockersIn}
+use Rattle.hitting.proofs.Gathers.{SymbolsGathered, first-room, symbols-start, symbol-known, symbols-room, symbols-go, symbols-long, symbols-end}
+use Prim.Native.Nat.{_-_}
+use borrow.Author.Needs.{needs}
+use Rattle.hitting.proofs.gathering.gather.Statement.{statement}
+use Rattle.hitting.proofs.gathering.gather.Tie as tie
+use Rattle.hitting.proofs.gathering.gather.Reads as reads
+use Rattle.hitting.proofs.gathering.gather.Lts as lts
+use Rattle.hitting.proofs.gathering.with_set.Reads as with-set-reads
+use Rattle.hitting.proofs.gathering.with_symbol.Reads as with-symbol-reads
+use Rattle.masks.proofs.without.Reads as without-reads
+
+abbrev Inv-loop : tie.InvT-loop
+Inv-loop image head masks levels below x sets₀ count₀ symbol₀ sets count symbol = SymbolsGathered image (blockersIn masks levels) (below .0) x (head .symbols) sets₀ (symbol .0) count sets
+
+abbrev μ-loop : tie.MeasureT-loop
+μ-loop image head masks levels below x sets₀ count₀ symbol₀ sets count symbol = head .symbols - symbol .0
+
+without-requires : tie.Need-without-requires Inv-loop μ-loop
+without-requires c κs = search needs
+
+with-set-requires : tie.Need-with-set-requires Inv-loop μ-loop
+with-set-requires c κs = search (first-room, needs)
+
+loop-holds : tie.Need-loop-holds Inv-loop μ-loop
+loop-holds c = search (symbols-start, needs)
+
+with-symbol-requires : tie.Need-with-symbol-requires Inv-loop μ-loop
+with-symbol-requires c κs =
+    let so-far = c .before .before .before .before .loop .inv in
+    let l = c .before .if1 .taken in
+    search (symbol-known so-far l, symbols-room so-far l, needs)
+
+add-t16 : tie.Need-add-t16 Inv-loop μ-loop
+add-t16 c = search needs
+
+loop-less : tie.Need-loop-less Inv-loop μ-loop
+loop-less c = search needs
+
+loop-again : tie.Need-loop-again Inv-loop μ-loop
+loop-again c = search (symbols-go, needs)
+
+same-length : tie.Need-same-length Inv-loop μ-loop
+same-length c = search (symbols-long, needs)
+
+returns : tie.Need-returns Inv-loop μ-loop
+returns c = search (symbols-end, needs)
+
+pub gather-spec : {M : Type 1} → statement M
+gather-spec =
+    tie.close
+    (tie.spec
+    Inv-loop
+    μ-loop
+    without-requires
+    with-set-requires
+    loop-holds
+    with-symbol-requires
+    add-t16
+    loop-less
+    loop-again
+    same-length
+    returns)

@@ -1,0 +1,49 @@
+use Rattle.hitting.proofs.Gathers.{RowsGathered, rows-start, row-stands, next-room, rows-go, rows-long, rows-end}
+use Prim.Native.Nat.{_-_}
+use borrow.Author.Needs.{needs}
+use Rattle.hitting.proofs.gathering.with_rows.Statement.{statement}
+use Rattle.hitting.proofs.gathering.with_rows.Tie as tie
+use Rattle.hitting.proofs.gathering.with_rows.Reads as reads
+use Rattle.hitting.proofs.gathering.with_rows.Lts as lts
+use Rattle.hitting.proofs.gathering.with_row.Reads as with-row-reads
+
+abbrev Inv-loop : tie.InvT-loop
+Inv-loop image start end b x sets₀ count total₀ at₀ sets total at = RowsGathered image start end b x sets₀ count total at sets
+
+abbrev μ-loop : tie.MeasureT-loop
+μ-loop image start end b x sets₀ count total₀ at₀ sets total at = end - at
+
+loop-holds : tie.Need-loop-holds Inv-loop μ-loop
+loop-holds c = search (rows-start, needs)
+
+with-row-requires : tie.Need-with-row-requires Inv-loop μ-loop
+with-row-requires c κs = search (row-stands, next-room, needs)
+
+add-at : tie.Need-add-at Inv-loop μ-loop
+add-at c = search needs
+
+loop-less : tie.Need-loop-less Inv-loop μ-loop
+loop-less c = search needs
+
+loop-again : tie.Need-loop-again Inv-loop μ-loop
+loop-again c = search (rows-go, needs)
+
+same-length : tie.Need-same-length Inv-loop μ-loop
+same-length c = search (rows-long, needs)
+
+returns : tie.Need-returns Inv-loop μ-loop
+returns c = search (rows-end, needs)
+
+pub with-rows-spec : {M : Type 1} → statement M
+with-rows-spec =
+    tie.close
+    (tie.spec
+    Inv-loop
+    μ-loop
+    loop-holds
+    with-row-requires
+    add-at
+    loop-less
+    loop-again
+    same-length
+    returns)
