@@ -1,17 +1,18 @@
 -- The sets as they gather in the table: one set, the rows of a symbol, and all symbols. Assumes nothing.
 use Prim.Native.Nat.{ℕ, zero, suc, _+_, _-_, _≤_, _<_}
 use mathlib.Core.Path.{_≡_, refl, sym, ap, subst, _∙_}
-use mathlib.Core.Bool.{Bool, true, false}
+use mathlib.Core.Bool.{Bool, true, false, not}
 use mathlib.Core.List.{List, [], _∷_, _++_}
 use native.Mathlib.Nat.{sub-zero}
 use native.Mathlib.Numerals.{add-one}
 use native.Mathlib.Omega.{arith}
-use borrow.Author.Tests.{eq-eqb, ne-eqb}
+use borrow.Author.Tests.{eq-eqb, ne-eqb, not-true}
 use lib.Dec.{eqb}
 use lib.ListN.{length, length-append, getD, take, drop, set, length-set}
 use lib.Seq.{length-take-le, take-suc-set}
 use Rattle.lists.specs.Tests.{_or_, neg, choose}
 use Rattle.lists.specs.Lists.{any, keep}
+use Rattle.lists.proofs.Lists.{in-none, each-more, each-joined}
 use Rattle.masks.specs.Sets.{member, without}
 use Rattle.automata.specs.Image.{Row, symbolsOf, rowAt, rowsOf}
 use Rattle.automata.specs.Automaton.{backward}
@@ -26,8 +27,10 @@ use Rattle.machine.specs.Lent.{column}
 use Rattle.machine.specs.Runs.{systemOf}
 use Rattle.machine.specs.Hitting.{cover, casesOutside, casesFrom, forbidden, withSet, withCases, toMeet}
 use Rattle.machine.proofs.Counted.{with-cases-joined, with-cases-longer}
-use Rattle.hitting.specs.Sets.{Gathered, HasRoom, withRows, withSymbol}
+use Rattle.hitting.specs.Marked.{isMarked, withMark}
+use Rattle.hitting.specs.Sets.{Gathered, Filled, HasRoom, withRows, withSymbol}
 use Rattle.hitting.proofs.Table.{next-set, no-set}
+use Rattle.hitting.proofs.Marking.{with-mark-long, mark-stays, mark-made, unmarked-new}
 
 -- the search for a set among the first places, before place i
 pub record AmongTried (table : List ℕ) (count one i : ℕ) : Type 0 where
@@ -56,22 +59,29 @@ module _ {table : List ℕ} {count one i : ℕ} (tried : AmongTried table count 
   unfolding any
   among-nowhere l = sym (sym (tried .left) ∙ rw (no-set table count i (tried .fits) l))
 
--- one set: it is empty, it is there, or it enters
-module _ (table : List ℕ) (count one : ℕ) (room : HasRoom count table (withSet (take count table) one)) where
+-- a set that is looked for only if its bit is marked
+module _ (sets marks : List ℕ) (count one : ℕ) (filled : Filled (take count sets) count sets marks) (marked : Bool) (test : marked ≡ isMarked marks one) where
+  pub not-there : not marked ≡ true → false ≡ any (eqb one) (take count sets)
+  not-there t = sym (unmarked-new marks (take count sets) one (filled .all-marked) (sym test ∙ not-true marked t))
+
+-- one set: it is empty, it is there, or it enters and is marked
+module _ (table marks : List ℕ) (count one : ℕ) (room : HasRoom count table marks (withSet (take count table) one)) where
   or-last : (a b : Bool) → b ≡ true → a or b ≡ true
   unfolding _or_
   or-last true b e = refl
   or-last false b e = e
 
-  stays : eqb one 0 or any (eqb one) (take count table) ≡ true → Gathered (withSet (take count table) one) count table
+  stays : eqb one 0 or any (eqb one) (take count table) ≡ true → Filled (withSet (take count table) one) count table marks
   unfolding withSet choose
-  stays e = record { stands = sym (rw e); fits = room .used }
+  stays e =
+      let same : withSet (take count table) one ≡ take count table = rw e in
+      subst (λ (sets : List ℕ). Filled sets count table marks) (sym same) (room .used)
 
-  pub set-empty : one ≡ 0 → Gathered (withSet (take count table) one) count table
+  pub set-empty : one ≡ 0 → Filled (withSet (take count table) one) count table marks
   unfolding _or_
   set-empty e = stays (rw (eq-eqb one 0 e))
 
-  pub set-among : (b : Bool) → b ≡ any (eqb one) (take count table) → b ≡ true → Gathered (withSet (take count table) one) count table
+  pub set-among : (b : Bool) → b ≡ any (eqb one) (take count table) → b ≡ true → Filled (withSet (take count table) one) count table marks
   set-among b e t = stays (or-last _ _ (sym e ∙ t))
 
   module _ (b : Bool) (some : one ≡ 0 → ⊥) (e : b ≡ any (eqb one) (take count table)) (f : b ≡ false) where
@@ -81,36 +91,52 @@ module _ (table : List ℕ) (count one : ℕ) (room : HasRoom count table (withS
 
     pub set-place : count < length table
     set-place =
-        omega (arith, room .room, ap length new, length-append (take count table) (one ∷ []), length-take-le count table (room .used))
+        let fits = room .used .gathered .fits in
+        omega (arith, room .room, ap length new, length-append (take count table) (one ∷ []), length-take-le count table fits)
 
-    pub set-enters : Gathered (withSet (take count table) one) (count + 1) (set table count one)
-    set-enters =
-        record {
-          stands = ap (λ (k : ℕ). take k (set table count one)) (add-one count) ∙ take-suc-set table count one set-place ∙ sym new;
-          fits = omega (arith, set-place, length-set table count one);
-        }
+    pub set-enters : (after : List ℕ) → after ≡ withMark marks one → Filled (withSet (take count table) one) (count + 1) (set table count one) after
+    set-enters after made =
+        let some-word = room .used .some-word in
+        subst (λ (sets : List ℕ). Filled sets (count + 1) (set table count one) after) (sym new)
+        (record {
+          gathered = record {
+            stands = ap (λ (k : ℕ). take k (set table count one)) (add-one count) ∙ take-suc-set table count one set-place;
+            fits = omega (arith, set-place, length-set table count one);
+          };
+          some-word = omega (arith, some-word, ap length made, with-mark-long marks one);
+          all-marked =
+              rw made
+              (each-joined (take count table) (λ other m. mark-stays marks some-word one other (room .used .all-marked other m))
+              (each-more (mark-made marks some-word one) (λ other m. absurd (in-none m))));
+        })
 
 -- one row: its state is in b, or what is left of its case enters
 module _ (image : List ℕ) (at : ℕ) (row : Read.Row) (is : rowOf row ≡ rowAt image at) (b X : ℕ) (inside : Bool) (test : inside ≡ member (row .state .0) b)
-    (table : List ℕ) (count : ℕ) (room : HasRoom count table (withRows X b (take count table) (rowAt image at ∷ []))) where
+    (table marks : List ℕ) (count : ℕ) (room : HasRoom count table marks (withRows X b (take count table) (rowAt image at ∷ []))) where
   of-row : withRows X b (take count table) (rowOf row ∷ []) ≡ withRows X b (take count table) (rowAt image at ∷ [])
   of-row = ap (λ (r : Row). withRows X b (take count table) (r ∷ [])) is
 
-  pub row-inside : inside ≡ true → Gathered (withRows X b (take count table) (rowAt image at ∷ [])) count table
+  pub row-inside : inside ≡ true → Filled (withRows X b (take count table) (rowAt image at ∷ [])) count table marks
   unfolding casesOutside keep choose neg column withCases
-  row-inside t = record { stands = sym (rw (← test, t)) ∙ of-row; fits = room .used }
+  row-inside t =
+      let same : withRows X b (take count table) (rowAt image at ∷ []) ≡ take count table = sym of-row ∙ rw (← test, t) in
+      subst (λ (sets : List ℕ). Filled sets count table marks) (sym same) (room .used)
 
   module _ (left : ℕ) (is-left : left ≡ without (row .case) X) (f : inside ≡ false) where
     row-new : withSet (take count table) left ≡ withRows X b (take count table) (rowAt image at ∷ [])
     unfolding casesOutside keep choose neg column withCases
     row-new = sym (rw (← test, f, is-left)) ∙ of-row
 
-    pub row-room : HasRoom count table (withSet (take count table) left)
+    pub row-room : HasRoom count table marks (withSet (take count table) left)
     row-room = rw row-new room
 
-    pub row-outside : (r : ℕ) (after : List ℕ) → Gathered (withSet (take count table) left) r after
-        → Gathered (withRows X b (take count table) (rowAt image at ∷ [])) r after
-    row-outside r after g = record { stands = g .stands ∙ row-new; fits = g .fits }
+    pub row-outside : (r : ℕ) (after marks-after : List ℕ) → Filled (withSet (take count table) left) r after marks-after
+        → Filled (withRows X b (take count table) (rowAt image at ∷ [])) r after marks-after
+    row-outside r after marks-after filled = rw (← row-new) filled
+
+-- what is filled with sets holds them in its first places
+first-filled : {sets : List ℕ} {count : ℕ} {table marks : List ℕ} → Filled sets count table marks → Filled (take count table) count table marks
+first-filled {count = count} {table = table} {marks = marks} filled = subst (λ (s : List ℕ). Filled s count table marks) (sym (filled .gathered .stands)) filled
 
 -- rows joined
 outside-first : (b : ℕ) (row : Row) (rows : List Row) → casesOutside b (row ∷ rows) ≡ casesOutside b (row ∷ []) ++ casesOutside b rows
@@ -127,22 +153,21 @@ first-then : (X b : ℕ) (sets : List ℕ) (row : Row) (rows : List Row)
 first-then X b sets row rows = ap (withCases X sets) (outside-first b row rows) ∙ with-cases-joined X sets (casesOutside b (row ∷ [])) (casesOutside b rows)
 
 -- the rows from start to end, before the row at `at`: those ahead give what all give
-pub record RowsGathered (image : List ℕ) (start end b X : ℕ) (before : List ℕ) (count total at : ℕ) (table : List ℕ) : Type 0 where
+pub record RowsGathered (image : List ℕ) (start end b X : ℕ) (before marked : List ℕ) (count total at : ℕ) (table marks : List ℕ) : Type 0 where
   pub at-row : AtRow image start end at
-  pub used : total ≤ length table
+  pub used : Filled (take total table) total table marks
   pub same : length table ≡ length before
+  pub same-words : length marks ≡ length marked
   pub room : length (withRows X b (take count before) (rowsBetween image start end)) ≤ length before
   pub left : withRows X b (take total table) (rowsBetween image at end) ≡ withRows X b (take count before) (rowsBetween image start end)
 
-pub rows-start : {image : List ℕ} {start end b X : ℕ} {table : List ℕ} {count : ℕ} → Span image start end
-    → HasRoom count table (withRows X b (take count table) (rowsBetween image start end)) → RowsGathered image start end b X table count count start table
-rows-start span room = record { at-row = first-row span; used = room .used; same = refl; room = room .room; left = refl }
+pub rows-start : {image : List ℕ} {start end b X : ℕ} {table marks : List ℕ} {count : ℕ} → Span image start end
+    → HasRoom count table marks (withRows X b (take count table) (rowsBetween image start end))
+    → RowsGathered image start end b X table marks count count start table marks
+rows-start span room = record { at-row = first-row span; used = room .used; same = refl; same-words = refl; room = room .room; left = refl }
 
-module _ {image : List ℕ} {start end b X : ℕ} {before : List ℕ} {count total at : ℕ} {table : List ℕ}
-    (so-far : RowsGathered image start end b X before count total at table) where
-  pub rows-long : length table ≡ length before
-  rows-long = so-far .same
-
+module _ {image : List ℕ} {start end b X : ℕ} {before marked : List ℕ} {count total at : ℕ} {table marks : List ℕ}
+    (so-far : RowsGathered image start end b X before marked count total at table marks) where
   pub row-stands : at < end → RowsStand image 1 at
   row-stands l = one-stands (so-far .at-row) l
 
@@ -154,7 +179,7 @@ module _ {image : List ℕ} {start end b X : ℕ} {before : List ℕ} {count tot
         ∙ ap (withRows X b (take total table)) (sym (rows-ahead (so-far .at-row) l))
         ∙ so-far .left
 
-    pub next-room : HasRoom total table (withRows X b (take total table) (rowAt image at ∷ []))
+    pub next-room : HasRoom total table marks (withRows X b (take total table) (rowAt image at ∷ []))
     next-room =
         record {
           used = so-far .used;
@@ -168,24 +193,24 @@ module _ {image : List ℕ} {start end b X : ℕ} {before : List ℕ} {count tot
               );
         }
 
-    pub rows-go : (r : ℕ) (after : List ℕ) → Gathered (withRows X b (take total table) (rowAt image at ∷ [])) r after → length after ≡ length table
-        → RowsGathered image start end b X before count r (at + 9) after
-    rows-go r after g same =
+    pub rows-go : (r : ℕ) (after marks-after : List ℕ) → Filled (withRows X b (take total table) (rowAt image at ∷ [])) r after marks-after
+        → length after ≡ length table → length marks-after ≡ length marks → RowsGathered image start end b X before marked count r (at + 9) after marks-after
+    rows-go r after marks-after filled same same-words =
         record {
           at-row = one-further (so-far .at-row) l;
-          used = g .fits;
+          used = first-filled filled;
           same = same ∙ so-far .same;
+          same-words = same-words ∙ so-far .same-words;
           room = so-far .room;
-          left = ap (λ (sets : List ℕ). withRows X b sets (rowsBetween image (at + 9) end)) (g .stands) ∙ split;
+          left = ap (λ (sets : List ℕ). withRows X b sets (rowsBetween image (at + 9) end)) (filled .gathered .stands) ∙ split;
         }
 
-  pub rows-end : end ≤ at → Gathered (withRows X b (take count before) (rowsBetween image start end)) total table
+  pub rows-end : end ≤ at → Filled (withRows X b (take count before) (rowsBetween image start end)) total table marks
   unfolding casesOutside keep column withCases
   rows-end l =
-      record {
-        stands = ap (withRows X b (take total table)) (sym (none-ahead (so-far .at-row) l)) ∙ so-far .left;
-        fits = so-far .used;
-      }
+      let all : take total table ≡ withRows X b (take count before) (rowsBetween image start end) =
+      ap (withRows X b (take total table)) (sym (none-ahead (so-far .at-row) l)) ∙ so-far .left in
+      subst (λ (sets : List ℕ). Filled sets total table marks) all (so-far .used)
 
 -- the rows of a symbol, with its b
 module _ {image : List ℕ} {head : Head} (read : ReadAs image head) (table : List Blocker) (below X s P b : ℕ) (rows : List Row)
@@ -193,61 +218,66 @@ module _ {image : List ℕ} {head : Head} (read : ReadAs image head) (table : Li
   symbol-is : withRows X b sets rows ≡ withSymbol (systemOf image) (rowsOf image) table below X sets s
   symbol-is = rw (are, covers, taken, head-states read, head-initial read)
 
-  pub symbol-room : (count : ℕ) (places : List ℕ) → HasRoom count places (withSymbol (systemOf image) (rowsOf image) table below X sets s)
-      → HasRoom count places (withRows X b sets rows)
-  symbol-room count places room = rw symbol-is room
+  pub symbol-room : (count : ℕ) (places marks : List ℕ) → HasRoom count places marks (withSymbol (systemOf image) (rowsOf image) table below X sets s)
+      → HasRoom count places marks (withRows X b sets rows)
+  symbol-room count places marks room = rw symbol-is room
 
-  pub symbol-made : (r : ℕ) (after : List ℕ) → Gathered (withRows X b sets rows) r after
-      → Gathered (withSymbol (systemOf image) (rowsOf image) table below X sets s) r after
-  symbol-made r after g = rw (← symbol-is) g
+  pub symbol-made : (r : ℕ) (after marks : List ℕ) → Filled (withRows X b sets rows) r after marks
+      → Filled (withSymbol (systemOf image) (rowsOf image) table below X sets s) r after marks
+  symbol-made r after marks filled = rw (← symbol-is) filled
 
 -- all symbols, before symbol s: those ahead give what all give
-pub record SymbolsGathered (image : List ℕ) (table : List Blocker) (below X symbols : ℕ) (before : List ℕ) (s count : ℕ) (places : List ℕ) : Type 0 where
+pub record SymbolsGathered (image : List ℕ) (table : List Blocker) (below X symbols : ℕ) (before marked : List ℕ) (s count : ℕ) (places marks : List ℕ) : Type 0 where
   pub known : symbols ≡ symbolsOf image
   pub same : length places ≡ length before
-  pub used : count ≤ length places
+  pub same-words : length marks ≡ length marked
+  pub used : Filled (take count places) count places marks
   pub room : length (toMeet (systemOf image) (rowsOf image) table below X) ≤ length places
   pub left : withCases X (take count places) (casesFrom (systemOf image) (rowsOf image) table below X (symbols - s) s)
       ≡ toMeet (systemOf image) (rowsOf image) table below X
 
 module _ {image : List ℕ} {head : Head} (read : ReadAs image head) (table : List Blocker) (below X left : ℕ) (is-left : left ≡ without (head .initial) X)
-    (places : List ℕ) (room : length (toMeet (systemOf image) (rowsOf image) table below X) ≤ length places) where
+    (places marks : List ℕ) (room : HasRoom 0 places marks (toMeet (systemOf image) (rowsOf image) table below X)) where
   -- the first set is that of I
   first-set : withCases X (withSet (take 0 places) left) (casesFrom (systemOf image) (rowsOf image) table below X (symbolsOf image) 0)
       ≡ toMeet (systemOf image) (rowsOf image) table below X
   unfolding toMeet forbidden withCases
   first-set = rw (is-left, head-initial read)
 
-  pub first-room : HasRoom 0 places (withSet (take 0 places) left)
+  pub first-room : HasRoom 0 places marks (withSet (take 0 places) left)
   first-room =
       record {
-        used = omega arith;
+        used = room .used;
         room =
             omega (
               arith,
               with-cases-longer X (withSet (take 0 places) left) (casesFrom (systemOf image) (rowsOf image) table below X (symbolsOf image) 0),
               ap length first-set,
-              room,
+              room .room,
             );
       }
 
-  pub symbols-start : (r : ℕ) (after : List ℕ) → Gathered (withSet (take 0 places) left) r after → length after ≡ length places
-      → SymbolsGathered image table below X (head .symbols) after 0 r after
-  symbols-start r after g same =
+  pub symbols-start : (r : ℕ) (after marks-after : List ℕ) → Filled (withSet (take 0 places) left) r after marks-after → length after ≡ length places
+      → SymbolsGathered image table below X (head .symbols) after marks-after 0 r after marks-after
+  symbols-start r after marks-after filled same =
       record {
         known = head-symbols read;
         same = refl;
-        used = g .fits;
-        room = omega (arith, room, same);
+        same-words = refl;
+        used = first-filled filled;
+        room = omega (arith, room .room, same);
         left =
-            ap (λ (sets : List ℕ). withCases X sets (casesFrom (systemOf image) (rowsOf image) table below X (head .symbols - 0) 0)) (g .stands)
+            ap (λ (sets : List ℕ). withCases X sets (casesFrom (systemOf image) (rowsOf image) table below X (head .symbols - 0) 0)) (filled .gathered .stands)
             ∙ rw (sub-zero (head .symbols), head-symbols read) first-set;
       }
 
-module _ {image : List ℕ} {table : List Blocker} {below X symbols s count : ℕ} {before places : List ℕ}
-    (so-far : SymbolsGathered image table below X symbols before s count places) where
+module _ {image : List ℕ} {table : List Blocker} {below X symbols s count : ℕ} {before marked places marks : List ℕ}
+    (so-far : SymbolsGathered image table below X symbols before marked s count places marks) where
   pub symbols-long : (entry : List ℕ) → length before ≡ length entry → length places ≡ length entry
   symbols-long entry e = so-far .same ∙ e
+
+  pub words-long : (entry : List ℕ) → length marked ≡ length entry → length marks ≡ length entry
+  words-long entry e = so-far .same-words ∙ e
 
   pub symbol-known : s < symbols → s < symbolsOf image
   symbol-known l = omega (arith, so-far .known)
@@ -261,7 +291,7 @@ module _ {image : List ℕ} {table : List Blocker} {below X symbols s count : �
         let c : symbols - s ≡ suc (symbols - suc s) = omega arith in
         sym (with-cases-joined X (take count places) _ _) ∙ rw add-one (rw c at (so-far .left))
 
-    pub symbols-room : HasRoom count places (withSymbol (systemOf image) (rowsOf image) table below X (take count places) s)
+    pub symbols-room : HasRoom count places marks (withSymbol (systemOf image) (rowsOf image) table below X (take count places) s)
     symbols-room =
         record {
           used = so-far .used;
@@ -275,16 +305,18 @@ module _ {image : List ℕ} {table : List Blocker} {below X symbols s count : �
               );
         }
 
-    pub symbols-go : (r : ℕ) (after : List ℕ) → Gathered (withSymbol (systemOf image) (rowsOf image) table below X (take count places) s) r after
-        → length after ≡ length places → SymbolsGathered image table below X symbols before (s + 1) r after
-    symbols-go r after g same =
+    pub symbols-go : (r : ℕ) (after marks-after : List ℕ)
+        → Filled (withSymbol (systemOf image) (rowsOf image) table below X (take count places) s) r after marks-after → length after ≡ length places
+        → length marks-after ≡ length marks → SymbolsGathered image table below X symbols before marked (s + 1) r after marks-after
+    symbols-go r after marks-after filled same same-words =
         record {
           known = so-far .known;
           same = same ∙ so-far .same;
-          used = g .fits;
+          same-words = same-words ∙ so-far .same-words;
+          used = first-filled filled;
           room = omega (arith, so-far .room, same);
           left =
-              ap (λ (sets : List ℕ). withCases X sets (casesFrom (systemOf image) (rowsOf image) table below X (symbols - (s + 1)) (s + 1))) (g .stands)
+              ap (λ (sets : List ℕ). withCases X sets (casesFrom (systemOf image) (rowsOf image) table below X (symbols - (s + 1)) (s + 1))) (filled .gathered .stands)
               ∙ split-symbols;
         }
 
@@ -292,4 +324,4 @@ module _ {image : List ℕ} {table : List Blocker} {below X symbols s count : �
   unfolding casesFrom withCases
   symbols-end l =
       let c : symbols - s ≡ 0 = omega arith in
-      record { stands = rw c at (so-far .left); fits = so-far .used }
+      record { stands = rw c at (so-far .left); fits = so-far .used .gathered .fits }

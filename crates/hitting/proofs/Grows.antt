@@ -1,10 +1,11 @@
 -- The whole growth: the table has room for the sets, they are few enough to count, and what is not picked is the set that X grows to. Assumes nothing.
 use Prim.Native.Nat.{ℕ, _≤_, _<_}
-use mathlib.Core.Path.{_≡_, ap, _∙_}
+use mathlib.Core.Path.{_≡_, refl, ap, _∙_}
 use mathlib.Core.List.{List}
 use native.Mathlib.Omega.{arith}
 use lib.ListN.{length, take}
 use lib.Seq.{length-take-le}
+use Rattle.lists.proofs.Lists.{in-none}
 use Rattle.masks.specs.Sets.{without, full}
 use Rattle.automata.specs.Image.{rowCountOf, rowsOf}
 use Rattle.automata.specs.Answers.{ReadAs}
@@ -14,7 +15,7 @@ use Rattle.automata.proofs.Reading.{head-states, head-rows}
 use Rattle.machine.specs.Machine.{Blocker}
 use Rattle.machine.specs.Runs.{systemOf}
 use Rattle.machine.specs.Hitting.{others, toMeet, picked, byHittingSet}
-use Rattle.hitting.specs.Sets.{Gathered}
+use Rattle.hitting.specs.Sets.{Gathered, HasRoom}
 use Rattle.hitting.proofs.Few.{few-sets}
 
 module _ {image : List ℕ} {head : Head} (read : ReadAs image head) where
@@ -26,8 +27,13 @@ module _ {image : List ℕ} {head : Head} (read : ReadAs image head) where
   all-rows = omega (arith, valid-kept image (read .valid) .few-rows)
 
   module _ (table : List Blocker) (below X : ℕ) (places : List ℕ) where
-    pub room-enough : rowCountOf image < length places → length (toMeet (systemOf image) (rowsOf image) table below X) ≤ length places
-    room-enough l = omega (arith, few-sets image (read .valid) table below X)
+    pub room-enough : (marks : List ℕ) → rowCountOf image < length places → 1 ≤ length marks
+        → HasRoom 0 places marks (toMeet (systemOf image) (rowsOf image) table below X)
+    room-enough marks l some =
+        record {
+          used = record { gathered = record { stands = refl; fits = omega arith }; some-word = some; all-marked = λ one m. absurd (in-none m) };
+          room = omega (arith, few-sets image (read .valid) table below X);
+        }
 
     module _ (count : ℕ) (gathered : Gathered (toMeet (systemOf image) (rowsOf image) table below X) count places) where
       pub few-enough : count < 8192

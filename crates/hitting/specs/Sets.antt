@@ -10,15 +10,22 @@ use Rattle.automata.specs.Image.{Row}
 use Rattle.machine.specs.System.{System}
 use Rattle.machine.specs.Machine.{Blocker}
 use Rattle.machine.specs.Hitting.{RowSource, cover, casesOutside, withCases, best}
+use Rattle.hitting.specs.Marked.{AllMarked}
 
 -- the first `count` places of the table hold the sets
 pub record Gathered (sets : List ℕ) (count : ℕ) (table : List ℕ) : Type 0 where
   pub stands : take count table ≡ sets
   pub fits : count ≤ length table
 
--- so many places of the table are in use, and it has room for these sets
-pub record HasRoom (count : ℕ) (table sets : List ℕ) : Type 0 where
-  pub used : count ≤ length table
+-- and each of them is marked
+pub record Filled (sets : List ℕ) (count : ℕ) (table marks : List ℕ) : Type 0 where
+  pub gathered : Gathered sets count table
+  pub some-word : 1 ≤ length marks
+  pub all-marked : AllMarked marks sets
+
+-- the sets in the first places are marked, and the table has room for these
+pub record HasRoom (count : ℕ) (table marks sets : List ℕ) : Type 0 where
+  pub used : Filled (take count table) count table marks
   pub room : length sets ≤ length table
 
 -- the sets, with what is left of the cases of these rows whose state is outside b

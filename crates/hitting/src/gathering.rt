@@ -1,5 +1,7 @@
 // The sets that are to be met: what is left of I, and of the case of each row whose state is outside b, once the states of x are taken away. Each stands once,
 // and none is empty. The table has room for all of them.
+use crate::marks::is_marked;
+use crate::marks::mark;
 use automata::backward::backward;
 use automata::image::Head;
 use automata::image::Symbol;
@@ -20,7 +22,7 @@ ghost use Rattle.automata.specs.Answers.{ReadAs};
 ghost use Rattle.machine.specs.Lent.{blockersIn};
 ghost use Rattle.machine.specs.Runs.{systemOf};
 ghost use Rattle.machine.specs.Hitting.{cover as coverSet, withSet, toMeet};
-ghost use Rattle.hitting.specs.Sets.{Gathered, HasRoom, withRows, withSymbol};
+ghost use Rattle.hitting.specs.Sets.{Gathered, Filled, HasRoom, withRows, withSymbol};
 
 // Whether the set is one of the first `count`.
 fn among(sets: &[u64], count: usize, set: u64) -> bool
@@ -37,31 +39,51 @@ fn among(sets: &[u64], count: usize, set: u64) -> bool
     false
 }
 
+// The same, where the first `count` are marked: only a set whose bit is marked is looked for.
+fn is_there(sets: &[u64], marks: &[u64], count: usize, set: u64) -> bool
+    requires { ⌜ Filled (take count (now sets)) count (now sets) (now marks) ⌝ }
+    ensures { λ r. ⌜ r ≡ any (eqb set) (take count (now (sets .entry))) ⌝ }
+{
+    if !is_marked(marks, set) {
+        return false;
+    }
+    among(sets, count, set)
+}
+
 // The set enters behind the first `count` unless it is empty or one of them; answers how many there are then.
-fn with_set(sets: &mut [u64], count: usize, set: u64) -> usize
-    requires { ⌜ HasRoom count (now sets) (withSet (take count (now sets)) set) ⌝ }
-    ensures { λ r. ⌜ Gathered (withSet (take count (now (sets .entry))) set) r (now (sets .exit)) ⌝ }
+fn with_set(sets: &mut [u64], marks: &mut [u64], count: usize, set: u64) -> usize
+    requires { ⌜ HasRoom count (now sets) (now marks) (withSet (take count (now sets)) set) ⌝ }
+    ensures { λ r. ⌜ Filled (withSet (take count (now (sets .entry))) set) r (now (sets .exit)) (now (marks .exit)) ⌝ }
 {
     if set == 0 {
         return count;
     }
-    if among(sets, count, set) {
+    if is_there(sets, marks, count, set) {
         return count;
     }
     sets[count] = set;
+    mark(marks, set);
     count + 1
 }
 
 // What is left of the case of the row at `at` enters, if the row's state is outside b.
-fn with_row(image: &[u8], at: usize, b: u64, x: u64, sets: &mut [u64], count: usize) -> usize
-    requires { ⌜ RowsStand (now image) 1 at × HasRoom count (now sets) (withRows x b (take count (now sets)) (rowAt (now image) at ∷ [])) ⌝ }
-    ensures { λ r. ⌜ Gathered (withRows x b (take count (now (sets .entry))) (rowAt (now (image .entry)) at ∷ [])) r (now (sets .exit)) ⌝ }
+fn with_row(
+    image: &[u8],
+    at: usize,
+    b: u64,
+    x: u64,
+    sets: &mut [u64],
+    marks: &mut [u64],
+    count: usize,
+) -> usize
+    requires { ⌜ RowsStand (now image) 1 at × HasRoom count (now sets) (now marks) (withRows x b (take count (now sets)) (rowAt (now image) at ∷ [])) ⌝ }
+    ensures { λ r. ⌜ Filled (withRows x b (take count (now (sets .entry))) (rowAt (now (image .entry)) at ∷ [])) r (now (sets .exit)) (now (marks .exit)) ⌝ }
 {
     let row = row_at(image, at);
     if masks::member(row.state, b) {
         return count;
     }
-    with_set(sets, count, masks::without(row.case, x))
+    with_set(sets, marks, count, masks::without(row.case, x))
 }
 
 // The same for the rows from start to end.
@@ -72,15 +94,16 @@ fn with_rows(
     b: u64,
     x: u64,
     sets: &mut [u64],
+    marks: &mut [u64],
     count: usize,
 ) -> usize
-    requires { ⌜ Span (now image) start end × HasRoom count (now sets) (withRows x b (take count (now sets)) (rowsBetween (now image) start end)) ⌝ }
-    ensures { λ r. ⌜ Gathered (withRows x b (take count (now (sets .entry))) (rowsBetween (now (image .entry)) start end)) r (now (sets .exit)) ⌝ }
+    requires { ⌜ Span (now image) start end × HasRoom count (now sets) (now marks) (withRows x b (take count (now sets)) (rowsBetween (now image) start end)) ⌝ }
+    ensures { λ r. ⌜ Filled (withRows x b (take count (now (sets .entry))) (rowsBetween (now (image .entry)) start end)) r (now (sets .exit)) (now (marks .exit)) ⌝ }
 {
     let mut total = count;
     let mut at = start;
     while at < end {
-        total = with_row(image, at, b, x, sets, total);
+        total = with_row(image, at, b, x, sets, marks, total);
         at += 9;
     }
     total
@@ -111,17 +134,18 @@ fn with_symbol(
     x: u64,
     symbol: Symbol,
     sets: &mut [u64],
+    marks: &mut [u64],
     count: usize,
 ) -> usize
     requires { ⌜ ReadAs (now image) head × (symbol .0 < symbolsOf (now image))
-        × HasRoom count (now sets) (withSymbol (systemOf (now image)) (rowsOf (now image)) (blockersIn (now masks) (now levels)) (below .0) x (take count (now sets)) (symbol .0)) ⌝ }
-    ensures { λ r. ⌜ Gathered (withSymbol (systemOf (now (image .entry))) (rowsOf (now (image .entry)))
-        (blockersIn (now (masks .entry)) (now (levels .entry))) (below .0) x (take count (now (sets .entry))) (symbol .0)) r (now (sets .exit)) ⌝ }
+        × HasRoom count (now sets) (now marks) (withSymbol (systemOf (now image)) (rowsOf (now image)) (blockersIn (now masks) (now levels)) (below .0) x (take count (now sets)) (symbol .0)) ⌝ }
+    ensures { λ r. ⌜ Filled (withSymbol (systemOf (now (image .entry))) (rowsOf (now (image .entry)))
+        (blockersIn (now (masks .entry)) (now (levels .entry))) (below .0) x (take count (now (sets .entry))) (symbol .0)) r (now (sets .exit)) (now (marks .exit)) ⌝ }
 {
     let p = backward(image, symbol, x).set;
     let b = cover(head, masks, levels, below, x, p);
     let rows = rows_of(image, symbol);
-    with_rows(image, rows.start, rows.end, b, x, sets, count)
+    with_rows(image, rows.start, rows.end, b, x, sets, marks, count)
 }
 
 // The sets that are to be met where x grows one level above `below`; answers how many they are.
@@ -133,16 +157,28 @@ pub(crate) fn gather(
     below: Level,
     x: u64,
     sets: &mut [u64],
+    marks: &mut [u64],
 ) -> usize
     requires { ⌜ ReadAs (now image) head
-        × (length (toMeet (systemOf (now image)) (rowsOf (now image)) (blockersIn (now masks) (now levels)) (below .0) x) ≤ length (now sets)) ⌝ }
+        × HasRoom 0 (now sets) (now marks) (toMeet (systemOf (now image)) (rowsOf (now image)) (blockersIn (now masks) (now levels)) (below .0) x) ⌝ }
     ensures { λ r. ⌜ Gathered (toMeet (systemOf (now (image .entry))) (rowsOf (now (image .entry)))
         (blockersIn (now (masks .entry)) (now (levels .entry))) (below .0) x) r (now (sets .exit)) ⌝ }
 {
-    let mut count = with_set(sets, 0, masks::without(head.initial, x));
+    let mut count = with_set(sets, marks, 0, masks::without(head.initial, x));
     let mut symbol = Symbol(0);
     while symbol.0 < head.symbols {
-        count = with_symbol(image, head, masks, levels, below, x, symbol, sets, count);
+        count = with_symbol(
+            image,
+            head,
+            masks,
+            levels,
+            below,
+            x,
+            symbol,
+            sets,
+            marks,
+            count,
+        );
         symbol = Symbol(symbol.0 + 1);
     }
     count

@@ -3,10 +3,11 @@ use automata::image::Head;
 use blockers::Level;
 
 mod gathering; // gathering.rt: the sets that are to be met, each once
+mod marks; // marks.rt: which sets are surely new
 mod picking; // picking.rt: the states that meet them all
 
 ghost use mathlib.Core.Path.{_≡_};
-ghost use Prim.Native.Nat.{_<_};
+ghost use Prim.Native.Nat.{_≤_, _<_};
 ghost use lib.ListN.{length};
 ghost use Rattle.automata.specs.Image.{rowCountOf, rowsOf};
 ghost use Rattle.automata.specs.Answers.{ReadAs};
@@ -23,24 +24,26 @@ fn grow_in(
     below: Level,
     x: u64,
     sets: &mut [u64],
+    marks: &mut [u64],
 ) -> u64
-    requires { ⌜ ReadAs (now image) head × (rowCountOf (now image) < length (now sets)) ⌝ }
+    requires { ⌜ ReadAs (now image) head × (rowCountOf (now image) < length (now sets)) × (1 ≤ length (now marks)) ⌝ }
     ensures { λ r. ⌜ r ≡ byHittingSet (systemOf (now (image .entry))) (rowsOf (now (image .entry)))
         (blockersIn (now (masks .entry)) (now (levels .entry))) (below .0) x ⌝ }
 {
-    let count = gathering::gather(image, head, masks, levels, below, x, sets);
+    let count = gathering::gather(image, head, masks, levels, below, x, sets, marks);
     let picked = picking::pick(head.states, sets, count);
     masks::without(masks::full(head.states), picked)
 }
 
-// The same for images of fewer than 512 rows: a table that is short is soon cleared.
+// The same for images of fewer than 512 rows: short tables are soon cleared.
 fn grow_short(image: &[u8], head: Head, masks: &[u64], levels: &[u32], below: Level, x: u64) -> u64
     requires { ⌜ ReadAs (now image) head × (rowCountOf (now image) < 512) ⌝ }
     ensures { λ r. ⌜ r ≡ byHittingSet (systemOf (now (image .entry))) (rowsOf (now (image .entry)))
         (blockersIn (now (masks .entry)) (now (levels .entry))) (below .0) x ⌝ }
 {
     let mut sets = [0u64; 512];
-    grow_in(image, head, masks, levels, below, x, &mut sets)
+    let mut marks = [0u64; 64];
+    grow_in(image, head, masks, levels, below, x, &mut sets, &mut marks)
 }
 
 // The same for every image.
@@ -50,7 +53,8 @@ fn grow_long(image: &[u8], head: Head, masks: &[u64], levels: &[u32], below: Lev
         (blockersIn (now (masks .entry)) (now (levels .entry))) (below .0) x ⌝ }
 {
     let mut sets = [0u64; 4097];
-    grow_in(image, head, masks, levels, below, x, &mut sets)
+    let mut marks = [0u64; 512];
+    grow_in(image, head, masks, levels, below, x, &mut sets, &mut marks)
 }
 
 // The set that x grows to, as what blocks it one level above `below`: the states that are not picked.

@@ -45,12 +45,7 @@ unfolding check
 check-high true number later l h = inr l
 check-high false number later l h = h
 
--- a check comes before those behind it: where it applies they do not count, and where it does not they answer
-check-waits : (b : Bool) (number x y : ℕ) → ((x ≡ 0 → ⊥) → y ≡ x) → (check b (suc number) x ≡ 0 → ⊥) → check b (suc number) y ≡ check b (suc number) x
-unfolding check
-check-waits true number x y h n = refl
-check-waits false number x y h n = h n
-
+-- a check that does not apply leaves the answer to those behind it; one that does gives its number
 check-passed : (b : Bool) (number x y answer : ℕ) → (x ≡ 0 → y ≡ answer) → check b (suc number) x ≡ 0 → check b (suc number) y ≡ answer
 unfolding check
 check-passed true number x y answer h e = absurd (omega arith)
@@ -84,9 +79,6 @@ module _ (lent : Lent) (hints : List ℕ) (edition way : ℕ) where
   abbrev roomsThen : ℕ → ℕ
   roomsThen later = check (oddRooms lent) 30 (check (oversize lent hints) 31 later)
 
-  rooms-wait : (x y : ℕ) → ((x ≡ 0 → ⊥) → y ≡ x) → (roomsThen x ≡ 0 → ⊥) → roomsThen y ≡ roomsThen x
-  rooms-wait x y h = check-waits (oddRooms lent) 29 _ _ (check-waits (oversize lent hints) 30 x y h)
-
   rooms-passed : (x y answer : ℕ) → (x ≡ 0 → y ≡ answer) → roomsThen x ≡ 0 → roomsThen y ≡ answer
   rooms-passed x y answer h = check-passed (oddRooms lent) 29 _ _ answer (check-passed (oversize lent hints) 30 x y answer h)
 
@@ -94,10 +86,28 @@ module _ (lent : Lent) (hints : List ℕ) (edition way : ℕ) where
   edition-waits : (number : ℕ) → (checkTerms lent hints 1 0 number ≡ 0 → ⊥)
       → checkTerms lent hints edition way number ≡ checkTerms lent hints 1 0 number
   unfolding checkTerms unknownEdition unknownWay check neg _or_
-  edition-waits zero n = rooms-wait 0 (check (unknownEdition edition) 36 (check (unknownWay way) 37 0)) (λ f. absurd (f refl)) n
+  edition-waits zero n = at (oddRooms lent) (oversize lent hints) refl refl
+    where
+      at : (odd over : Bool) → oddRooms lent ≡ odd → oversize lent hints ≡ over → checkTerms lent hints edition way 0 ≡ checkTerms lent hints 1 0 0
+      at true over e f = rw e
+      at false true e f = rw (e, f)
+      at false false e f = absurd (n (rw (e, f)))
   edition-waits (suc number) n = refl
 
-  -- where nothing does, an edition other than 1 or 2 is refused
+  -- whatever refuses a run by way 0 comes before 37
+  way-waits : (number : ℕ) → (checkTerms lent hints edition 0 number ≡ 0 → ⊥) → checkTerms lent hints edition way number ≡ checkTerms lent hints edition 0 number
+  unfolding checkTerms unknownWay check neg _or_
+  way-waits zero n = at (oddRooms lent) (oversize lent hints) (unknownEdition edition) refl refl refl
+    where
+      at : (odd over unknown : Bool) → oddRooms lent ≡ odd → oversize lent hints ≡ over → unknownEdition edition ≡ unknown
+          → checkTerms lent hints edition way 0 ≡ checkTerms lent hints edition 0 0
+      at true over unknown e f g = rw e
+      at false true unknown e f g = rw (e, f)
+      at false false true e f g = rw (e, f, g)
+      at false false false e f g = absurd (n (rw (e, f, g)))
+  way-waits (suc number) n = refl
+
+  -- where nothing refuses it in edition 1 and by way 0, an edition other than 1 or 2 does
   edition-refused : (edition ≡ 1 → ⊥) → (edition ≡ 2 → ⊥) → (number : ℕ) → checkTerms lent hints 1 0 number ≡ 0
       → checkTerms lent hints edition way number ≡ 36
   unfolding checkTerms unknownEdition unknownWay check neg _or_
@@ -106,15 +116,7 @@ module _ (lent : Lent) (hints : List ℕ) (edition way : ℕ) where
       (λ z. check-applies (unknownEdition edition) 36 _ (neither edition 1 2 first second)) e
   edition-refused first second (suc number) e = absurd (omega arith)
 
-  -- whatever refuses a run by way 0 comes before 37
-  way-waits : (number : ℕ) → (checkTerms lent hints edition 0 number ≡ 0 → ⊥) → checkTerms lent hints edition way number ≡ checkTerms lent hints edition 0 number
-  unfolding checkTerms unknownWay check neg _or_
-  way-waits zero n =
-      rooms-wait (check (unknownEdition edition) 36 0) (check (unknownEdition edition) 36 (check (unknownWay way) 37 0))
-      (check-waits (unknownEdition edition) 35 0 (check (unknownWay way) 37 0) (λ f. absurd (f refl))) n
-  way-waits (suc number) n = refl
-
-  -- where nothing does, a way other than 0 or 1 is refused
+  -- where nothing refuses it by way 0, a way other than 0 or 1 does
   way-refused : (way ≡ 0 → ⊥) → (way ≡ 1 → ⊥) → (number : ℕ) → checkTerms lent hints edition 0 number ≡ 0 → checkTerms lent hints edition way number ≡ 37
   unfolding checkTerms unknownWay check neg _or_
   way-refused first second zero e =

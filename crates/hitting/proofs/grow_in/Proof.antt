@@ -25,6 +25,9 @@ without-requires c κs = search needs
 same-length : tie.Need-same-length
 same-length c = search needs
 
+same-length-2 : tie.Need-same-length-2
+same-length-2 c = search needs
+
 returns : tie.Need-returns
 returns c = search (grown, needs)
 
@@ -37,4 +40,5 @@ grow-in-spec =
     full-requires
     without-requires
     same-length
+    same-length-2
     returns)

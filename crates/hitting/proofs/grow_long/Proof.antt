@@ -9,6 +9,9 @@ use Rattle.hitting.proofs.grow_in.Reads as grow-in-reads
 slice-aggregate-grow-in : tie.Need-slice-aggregate-grow-in
 slice-aggregate-grow-in c = search needs
 
+slice-aggregate-grow-in-2 : tie.Need-slice-aggregate-grow-in-2
+slice-aggregate-grow-in-2 c = search needs
+
 grow-in-requires : tie.Need-grow-in-requires
 grow-in-requires c κs = search (all-rows, needs)
 
@@ -20,5 +23,6 @@ grow-long-spec =
     tie.close
     (tie.spec
     slice-aggregate-grow-in
+    slice-aggregate-grow-in-2
     grow-in-requires
     returns)

@@ -4,8 +4,8 @@ use Rattle.hitting.proofs.gathering.with_row.Statement.{statement}
 use Rattle.hitting.proofs.gathering.with_row.Tie as tie
 use Rattle.hitting.proofs.gathering.with_row.Reads as reads
 use Rattle.hitting.proofs.gathering.with_row.Lts as lts
-use Rattle.hitting.proofs.gathering.with_set.Reads as with-set-reads
 use Rattle.automata.proofs.rows.row_at.Reads as row-at-reads
+use Rattle.hitting.proofs.gathering.with_set.Reads as with-set-reads
 use Rattle.masks.proofs.member.Reads as member-reads
 use Rattle.masks.proofs.without.Reads as without-reads
 
@@ -27,6 +27,9 @@ with-set-requires c κs = search (row-room, needs)
 same-length : tie.Need-same-length
 same-length c = search needs
 
+same-length-2 : tie.Need-same-length-2
+same-length-2 c = search needs
+
 returns-2 : tie.Need-returns-2
 returns-2 c = search (row-outside, needs)
 
@@ -40,4 +43,5 @@ with-row-spec =
     without-requires
     with-set-requires
     same-length
+    same-length-2
     returns-2)

@@ -1,5 +1,5 @@
-use Rattle.hitting.proofs.Gathers.{RowsGathered, rows-start, row-stands, next-room, rows-go, rows-long, rows-end}
 use Prim.Native.Nat.{_-_}
+use Rattle.hitting.proofs.Gathers.{RowsGathered, rows-start, row-stands, next-room, rows-go, rows-end}
 use borrow.Author.Needs.{needs}
 use Rattle.hitting.proofs.gathering.with_rows.Statement.{statement}
 use Rattle.hitting.proofs.gathering.with_rows.Tie as tie
@@ -8,10 +8,10 @@ use Rattle.hitting.proofs.gathering.with_rows.Lts as lts
 use Rattle.hitting.proofs.gathering.with_row.Reads as with-row-reads
 
 abbrev Inv-loop : tie.InvT-loop
-Inv-loop image start end b x sets₀ count total₀ at₀ sets total at = RowsGathered image start end b x sets₀ count total at sets
+Inv-loop image start end b x sets₀ marks₀ count total₀ at₀ sets marks total at = RowsGathered image start end b x sets₀ marks₀ count total at sets marks
 
 abbrev μ-loop : tie.MeasureT-loop
-μ-loop image start end b x sets₀ count total₀ at₀ sets total at = end - at
+μ-loop image start end b x sets₀ marks₀ count total₀ at₀ sets marks total at = end - at
 
 loop-holds : tie.Need-loop-holds Inv-loop μ-loop
 loop-holds c = search (rows-start, needs)
@@ -29,7 +29,10 @@ loop-again : tie.Need-loop-again Inv-loop μ-loop
 loop-again c = search (rows-go, needs)
 
 same-length : tie.Need-same-length Inv-loop μ-loop
-same-length c = search (rows-long, needs)
+same-length c = search needs
+
+same-length-2 : tie.Need-same-length-2 Inv-loop μ-loop
+same-length-2 c = search needs
 
 returns : tie.Need-returns Inv-loop μ-loop
 returns c = search (rows-end, needs)
@@ -46,4 +49,5 @@ with-rows-spec =
     loop-less
     loop-again
     same-length
+    same-length-2
     returns)

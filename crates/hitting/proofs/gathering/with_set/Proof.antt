@@ -4,31 +4,41 @@ use Rattle.hitting.proofs.gathering.with_set.Statement.{statement}
 use Rattle.hitting.proofs.gathering.with_set.Tie as tie
 use Rattle.hitting.proofs.gathering.with_set.Reads as reads
 use Rattle.hitting.proofs.gathering.with_set.Lts as lts
-use Rattle.hitting.proofs.gathering.among.Reads as among-reads
+use Rattle.hitting.proofs.gathering.is_there.Reads as is-there-reads
+use Rattle.hitting.proofs.marks.mark.Reads as mark-reads
 
 returns : tie.Need-returns
 returns c = search (set-empty, needs)
 
-among-requires : tie.Need-among-requires
-among-requires c κs = search needs
+is-there-requires : tie.Need-is-there-requires
+is-there-requires c κs = search needs
 
 same-length : tie.Need-same-length
 same-length c = search needs
+
+same-length-2 : tie.Need-same-length-2
+same-length-2 c = search needs
 
 returns-2 : tie.Need-returns-2
 returns-2 c = search (set-among, needs)
 
 mul-sets : tie.Need-mul-sets
-mul-sets c = search (set-place, needs)
+mul-sets c = search needs
 
 slice-write-sets : tie.Need-slice-write-sets
 slice-write-sets c = search (set-place, needs)
 
-add-result : tie.Need-add-result
-add-result c = search (set-place, needs)
+mark-requires : tie.Need-mark-requires
+mark-requires c κs = search needs
 
-same-length-2 : tie.Need-same-length-2
-same-length-2 c = search needs
+add-result : tie.Need-add-result
+add-result c = search needs
+
+same-length-3 : tie.Need-same-length-3
+same-length-3 c = search needs
+
+same-length-4 : tie.Need-same-length-4
+same-length-4 c = search needs
 
 returns-3 : tie.Need-returns-3
 returns-3 c = search (set-enters, needs)
@@ -38,11 +48,14 @@ with-set-spec =
     tie.close
     (tie.spec
     returns
-    among-requires
+    is-there-requires
     same-length
+    same-length-2
     returns-2
     mul-sets
     slice-write-sets
+    mark-requires
     add-result
-    same-length-2
+    same-length-3
+    same-length-4
     returns-3)

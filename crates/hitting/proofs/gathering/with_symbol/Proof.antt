@@ -25,6 +25,9 @@ with-rows-requires c κs = search (symbol-room, needs)
 same-length : tie.Need-same-length
 same-length c = search needs
 
+same-length-2 : tie.Need-same-length-2
+same-length-2 c = search needs
+
 returns : tie.Need-returns
 returns c = search (symbol-made, needs)
 
@@ -37,4 +40,5 @@ with-symbol-spec =
     rows-of-requires
     with-rows-requires
     same-length
+    same-length-2
     returns)
