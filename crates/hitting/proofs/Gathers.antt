@@ -1,18 +1,19 @@
 -- The sets as they gather in the table: one set, the rows of a symbol, and all symbols. Assumes nothing.
 use Prim.Native.Nat.{ℕ, zero, suc, _+_, _-_, _≤_, _<_}
 use mathlib.Core.Path.{_≡_, refl, sym, ap, subst, _∙_}
-use mathlib.Core.Bool.{Bool, true, false, not}
+use mathlib.Core.Bool.{Bool, true, false}
 use mathlib.Core.List.{List, [], _∷_, _++_}
 use native.Mathlib.Nat.{sub-zero}
 use native.Mathlib.Numerals.{add-one}
 use native.Mathlib.Omega.{arith}
-use borrow.Author.Tests.{eq-eqb, ne-eqb, not-true}
-use lib.Dec.{eqb}
+use borrow.Author.Tests.{eq-eqb, ne-eqb}
+use lib.Dec.{T, eqb, eqb-refl}
 use lib.ListN.{length, length-append, getD, take, drop, set, length-set}
-use lib.Seq.{length-take-le, take-suc-set}
+use lib.Seq.{length-take-le, take-suc-set, getD-take}
 use Rattle.lists.specs.Tests.{_or_, neg, choose}
 use Rattle.lists.specs.Lists.{any, keep}
-use Rattle.lists.proofs.Lists.{in-none, each-more, each-joined}
+use Rattle.lists.proofs.Tests.{is-true}
+use Rattle.lists.proofs.Lists.{in-none, each-more, each-joined, some-any, at-in}
 use Rattle.masks.specs.Sets.{member, without}
 use Rattle.automata.specs.Image.{Row, symbolsOf, rowAt, rowsOf}
 use Rattle.automata.specs.Automaton.{backward}
@@ -27,10 +28,10 @@ use Rattle.machine.specs.Lent.{column}
 use Rattle.machine.specs.Runs.{systemOf}
 use Rattle.machine.specs.Hitting.{cover, casesOutside, casesFrom, forbidden, withSet, withCases, toMeet}
 use Rattle.machine.proofs.Counted.{with-cases-joined, with-cases-longer}
-use Rattle.hitting.specs.Marked.{isMarked, withMark}
+use Rattle.hitting.specs.Marked.{slotOf, markOf, withMark}
 use Rattle.hitting.specs.Sets.{Gathered, Filled, HasRoom, withRows, withSymbol}
 use Rattle.hitting.proofs.Table.{next-set, no-set}
-use Rattle.hitting.proofs.Marking.{with-mark-long, mark-stays, mark-made, unmarked-new}
+use Rattle.hitting.proofs.Marking.{with-mark-long, marks-few, mark-stays, mark-made, unmarked-new}
 
 -- the search for a set among the first places, before place i
 pub record AmongTried (table : List ℕ) (count one i : ℕ) : Type 0 where
@@ -59,10 +60,24 @@ module _ {table : List ℕ} {count one i : ℕ} (tried : AmongTried table count 
   unfolding any
   among-nowhere l = sym (sym (tried .left) ∙ rw (no-set table count i (tried .fits) l))
 
--- a set that is looked for only if its bit is marked
-module _ (sets marks : List ℕ) (count one : ℕ) (filled : Filled (take count sets) count sets marks) (marked : Bool) (test : marked ≡ isMarked marks one) where
-  pub not-there : not marked ≡ true → false ≡ any (eqb one) (take count sets)
-  not-there t = sym (unmarked-new marks (take count sets) one (filled .all-marked) (sym test ∙ not-true marked t))
+-- a set that is looked for by its mark
+module _ (sets marks : List ℕ) (count one number : ℕ) (filled : Filled (take count sets) count sets marks) (is : number ≡ markOf marks one) where
+  pub not-there : number ≡ 0 → false ≡ any (eqb one) (take count sets)
+  not-there z = sym (unmarked-new marks (take count sets) one (filled .all-marked) (sym is ∙ z))
+
+  module _ (some : number ≡ 0 → ⊥) where
+    place-used : number - 1 < count
+    unfolding markOf
+    place-used = omega (arith, is, filled .in-use (slotOf (length marks) one))
+
+    pub marked-place : number - 1 < length sets
+    marked-place = omega (arith, place-used, filled .gathered .fits)
+
+    pub there : getD sets (number - 1) 0 ≡ one → true ≡ any (eqb one) (take count sets)
+    there e =
+        let here : getD (take count sets) (number - 1) 0 ≡ one = getD-take count sets (number - 1) 0 place-used ∙ e in
+        let listed = at-in (take count sets) (number - 1) (omega (arith, place-used, length-take-le count sets (filled .gathered .fits))) in
+        sym (is-true _ (some-any (eqb one) (take count sets) _ listed (subst (λ (x : ℕ). T (eqb one x)) (sym here) (eqb-refl one))))
 
 -- one set: it is empty, it is there, or it enters and is marked
 module _ (table marks : List ℕ) (count one : ℕ) (room : HasRoom count table marks (withSet (take count table) one)) where
@@ -94,20 +109,24 @@ module _ (table marks : List ℕ) (count one : ℕ) (room : HasRoom count table 
         let fits = room .used .gathered .fits in
         omega (arith, room .room, ap length new, length-append (take count table) (one ∷ []), length-take-le count table fits)
 
-    pub set-enters : (after : List ℕ) → after ≡ withMark marks one → Filled (withSet (take count table) one) (count + 1) (set table count one) after
+    pub number-fits : count + 1 < 65536
+    number-fits = omega (arith, set-place, room .narrow)
+
+    pub set-enters : (after : List ℕ) → after ≡ withMark marks one (count + 1) → Filled (withSet (take count table) one) (count + 1) (set table count one) after
     set-enters after made =
-        let some-word = room .used .some-word in
+        let some-slot = room .used .some-slot in
         subst (λ (sets : List ℕ). Filled sets (count + 1) (set table count one) after) (sym new)
         (record {
           gathered = record {
             stands = ap (λ (k : ℕ). take k (set table count one)) (add-one count) ∙ take-suc-set table count one set-place;
             fits = omega (arith, set-place, length-set table count one);
           };
-          some-word = omega (arith, some-word, ap length made, with-mark-long marks one);
+          some-slot = omega (arith, some-slot, ap length made, with-mark-long marks some-slot one (count + 1));
           all-marked =
               rw made
-              (each-joined (take count table) (λ other m. mark-stays marks some-word one other (room .used .all-marked other m))
-              (each-more (mark-made marks some-word one) (λ other m. absurd (in-none m))));
+              (each-joined (take count table) (λ other m. mark-stays marks some-slot one (count + 1) (omega arith) other (room .used .all-marked other m))
+              (each-more (mark-made marks some-slot one (count + 1) (omega arith)) (λ other m. absurd (in-none m))));
+          in-use = rw made (marks-few marks some-slot one (count + 1) (count + 1) (omega arith) (λ slot. omega (arith, room .used .in-use slot)));
         })
 
 -- one row: its state is in b, or what is left of its case enters
@@ -157,14 +176,15 @@ pub record RowsGathered (image : List ℕ) (start end b X : ℕ) (before marked 
   pub at-row : AtRow image start end at
   pub used : Filled (take total table) total table marks
   pub same : length table ≡ length before
-  pub same-words : length marks ≡ length marked
+  pub same-slots : length marks ≡ length marked
   pub room : length (withRows X b (take count before) (rowsBetween image start end)) ≤ length before
+  pub narrow : length before < 65536
   pub left : withRows X b (take total table) (rowsBetween image at end) ≡ withRows X b (take count before) (rowsBetween image start end)
 
 pub rows-start : {image : List ℕ} {start end b X : ℕ} {table marks : List ℕ} {count : ℕ} → Span image start end
     → HasRoom count table marks (withRows X b (take count table) (rowsBetween image start end))
     → RowsGathered image start end b X table marks count count start table marks
-rows-start span room = record { at-row = first-row span; used = room .used; same = refl; same-words = refl; room = room .room; left = refl }
+rows-start span room = record { at-row = first-row span; used = room .used; same = refl; same-slots = refl; room = room .room; narrow = room .narrow; left = refl }
 
 module _ {image : List ℕ} {start end b X : ℕ} {before marked : List ℕ} {count total at : ℕ} {table marks : List ℕ}
     (so-far : RowsGathered image start end b X before marked count total at table marks) where
@@ -183,6 +203,7 @@ module _ {image : List ℕ} {start end b X : ℕ} {before marked : List ℕ} {co
     next-room =
         record {
           used = so-far .used;
+          narrow = omega (arith, so-far .narrow, so-far .same);
           room =
               omega (
                 arith,
@@ -195,13 +216,14 @@ module _ {image : List ℕ} {start end b X : ℕ} {before marked : List ℕ} {co
 
     pub rows-go : (r : ℕ) (after marks-after : List ℕ) → Filled (withRows X b (take total table) (rowAt image at ∷ [])) r after marks-after
         → length after ≡ length table → length marks-after ≡ length marks → RowsGathered image start end b X before marked count r (at + 9) after marks-after
-    rows-go r after marks-after filled same same-words =
+    rows-go r after marks-after filled same same-slots =
         record {
           at-row = one-further (so-far .at-row) l;
           used = first-filled filled;
           same = same ∙ so-far .same;
-          same-words = same-words ∙ so-far .same-words;
+          same-slots = same-slots ∙ so-far .same-slots;
           room = so-far .room;
+          narrow = so-far .narrow;
           left = ap (λ (sets : List ℕ). withRows X b sets (rowsBetween image (at + 9) end)) (filled .gathered .stands) ∙ split;
         }
 
@@ -230,9 +252,10 @@ module _ {image : List ℕ} {head : Head} (read : ReadAs image head) (table : Li
 pub record SymbolsGathered (image : List ℕ) (table : List Blocker) (below X symbols : ℕ) (before marked : List ℕ) (s count : ℕ) (places marks : List ℕ) : Type 0 where
   pub known : symbols ≡ symbolsOf image
   pub same : length places ≡ length before
-  pub same-words : length marks ≡ length marked
+  pub same-slots : length marks ≡ length marked
   pub used : Filled (take count places) count places marks
   pub room : length (toMeet (systemOf image) (rowsOf image) table below X) ≤ length places
+  pub narrow : length places < 65536
   pub left : withCases X (take count places) (casesFrom (systemOf image) (rowsOf image) table below X (symbols - s) s)
       ≡ toMeet (systemOf image) (rowsOf image) table below X
 
@@ -248,6 +271,7 @@ module _ {image : List ℕ} {head : Head} (read : ReadAs image head) (table : Li
   first-room =
       record {
         used = room .used;
+        narrow = room .narrow;
         room =
             omega (
               arith,
@@ -263,9 +287,10 @@ module _ {image : List ℕ} {head : Head} (read : ReadAs image head) (table : Li
       record {
         known = head-symbols read;
         same = refl;
-        same-words = refl;
+        same-slots = refl;
         used = first-filled filled;
         room = omega (arith, room .room, same);
+        narrow = omega (arith, room .narrow, same);
         left =
             ap (λ (sets : List ℕ). withCases X sets (casesFrom (systemOf image) (rowsOf image) table below X (head .symbols - 0) 0)) (filled .gathered .stands)
             ∙ rw (sub-zero (head .symbols), head-symbols read) first-set;
@@ -276,8 +301,8 @@ module _ {image : List ℕ} {table : List Blocker} {below X symbols s count : �
   pub symbols-long : (entry : List ℕ) → length before ≡ length entry → length places ≡ length entry
   symbols-long entry e = so-far .same ∙ e
 
-  pub words-long : (entry : List ℕ) → length marked ≡ length entry → length marks ≡ length entry
-  words-long entry e = so-far .same-words ∙ e
+  pub slots-long : (entry : List ℕ) → length marked ≡ length entry → length marks ≡ length entry
+  slots-long entry e = so-far .same-slots ∙ e
 
   pub symbol-known : s < symbols → s < symbolsOf image
   symbol-known l = omega (arith, so-far .known)
@@ -295,6 +320,7 @@ module _ {image : List ℕ} {table : List Blocker} {below X symbols s count : �
     symbols-room =
         record {
           used = so-far .used;
+          narrow = so-far .narrow;
           room =
               omega (
                 arith,
@@ -308,13 +334,14 @@ module _ {image : List ℕ} {table : List Blocker} {below X symbols s count : �
     pub symbols-go : (r : ℕ) (after marks-after : List ℕ)
         → Filled (withSymbol (systemOf image) (rowsOf image) table below X (take count places) s) r after marks-after → length after ≡ length places
         → length marks-after ≡ length marks → SymbolsGathered image table below X symbols before marked (s + 1) r after marks-after
-    symbols-go r after marks-after filled same same-words =
+    symbols-go r after marks-after filled same same-slots =
         record {
           known = so-far .known;
           same = same ∙ so-far .same;
-          same-words = same-words ∙ so-far .same-words;
+          same-slots = same-slots ∙ so-far .same-slots;
           used = first-filled filled;
           room = omega (arith, so-far .room, same);
+          narrow = omega (arith, so-far .narrow, same);
           left =
               ap (λ (sets : List ℕ). withCases X sets (casesFrom (systemOf image) (rowsOf image) table below X (symbols - (s + 1)) (s + 1))) (filled .gathered .stands)
               ∙ split-symbols;

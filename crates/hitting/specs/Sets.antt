@@ -4,7 +4,7 @@ use mathlib.Core.Path.{_≡_}
 use mathlib.Core.List.{List, [], _∷_}
 use lib.Bits.{bitAnd, bitXor}
 use lib.Dec.{eqb}
-use lib.ListN.{length, take}
+use lib.ListN.{length, getD, take}
 use Rattle.lists.specs.Tests.{choose}
 use Rattle.automata.specs.Image.{Row}
 use Rattle.machine.specs.System.{System}
@@ -17,16 +17,18 @@ pub record Gathered (sets : List ℕ) (count : ℕ) (table : List ℕ) : Type 0 
   pub stands : take count table ≡ sets
   pub fits : count ≤ length table
 
--- and each of them is marked
+-- and each of them is marked, by 1 and a place that is in use
 pub record Filled (sets : List ℕ) (count : ℕ) (table marks : List ℕ) : Type 0 where
   pub gathered : Gathered sets count table
-  pub some-word : 1 ≤ length marks
+  pub some-slot : 1 ≤ length marks
   pub all-marked : AllMarked marks sets
+  pub in-use : (slot : ℕ) → getD marks slot 0 ≤ count
 
--- the sets in the first places are marked, and the table has room for these
+-- the sets in the first places are marked, and the table has room for these; its places are numbers of 16 bits
 pub record HasRoom (count : ℕ) (table marks sets : List ℕ) : Type 0 where
   pub used : Filled (take count table) count table marks
   pub room : length sets ≤ length table
+  pub narrow : length table < 65536
 
 -- the sets, with what is left of the cases of these rows whose state is outside b
 abbrev pub withRows : ℕ → ℕ → List ℕ → List Row → List ℕ

@@ -1,7 +1,7 @@
 // The sets that are to be met: what is left of I, and of the case of each row whose state is outside b, once the states of x are taken away. Each stands once,
 // and none is empty. The table has room for all of them.
-use crate::marks::is_marked;
 use crate::marks::mark;
+use crate::marks::mark_of;
 use automata::backward::backward;
 use automata::image::Head;
 use automata::image::Symbol;
@@ -39,19 +39,23 @@ fn among(sets: &[u64], count: usize, set: u64) -> bool
     false
 }
 
-// The same, where the first `count` are marked: only a set whose bit is marked is looked for.
-fn is_there(sets: &[u64], marks: &[u64], count: usize, set: u64) -> bool
+// The same, where the first `count` are marked: an unmarked set is none of them, and most others stand where their mark says.
+fn is_there(sets: &[u64], marks: &[u16], count: usize, set: u64) -> bool
     requires { ⌜ Filled (take count (now sets)) count (now sets) (now marks) ⌝ }
     ensures { λ r. ⌜ r ≡ any (eqb set) (take count (now (sets .entry))) ⌝ }
 {
-    if !is_marked(marks, set) {
+    let number = mark_of(marks, set);
+    if number == 0 {
         return false;
+    }
+    if sets[number - 1] == set {
+        return true;
     }
     among(sets, count, set)
 }
 
 // The set enters behind the first `count` unless it is empty or one of them; answers how many there are then.
-fn with_set(sets: &mut [u64], marks: &mut [u64], count: usize, set: u64) -> usize
+fn with_set(sets: &mut [u64], marks: &mut [u16], count: usize, set: u64) -> usize
     requires { ⌜ HasRoom count (now sets) (now marks) (withSet (take count (now sets)) set) ⌝ }
     ensures { λ r. ⌜ Filled (withSet (take count (now (sets .entry))) set) r (now (sets .exit)) (now (marks .exit)) ⌝ }
 {
@@ -62,7 +66,7 @@ fn with_set(sets: &mut [u64], marks: &mut [u64], count: usize, set: u64) -> usiz
         return count;
     }
     sets[count] = set;
-    mark(marks, set);
+    mark(marks, set, count + 1);
     count + 1
 }
 
@@ -73,7 +77,7 @@ fn with_row(
     b: u64,
     x: u64,
     sets: &mut [u64],
-    marks: &mut [u64],
+    marks: &mut [u16],
     count: usize,
 ) -> usize
     requires { ⌜ RowsStand (now image) 1 at × HasRoom count (now sets) (now marks) (withRows x b (take count (now sets)) (rowAt (now image) at ∷ [])) ⌝ }
@@ -94,7 +98,7 @@ fn with_rows(
     b: u64,
     x: u64,
     sets: &mut [u64],
-    marks: &mut [u64],
+    marks: &mut [u16],
     count: usize,
 ) -> usize
     requires { ⌜ Span (now image) start end × HasRoom count (now sets) (now marks) (withRows x b (take count (now sets)) (rowsBetween (now image) start end)) ⌝ }
@@ -134,7 +138,7 @@ fn with_symbol(
     x: u64,
     symbol: Symbol,
     sets: &mut [u64],
-    marks: &mut [u64],
+    marks: &mut [u16],
     count: usize,
 ) -> usize
     requires { ⌜ ReadAs (now image) head × (symbol .0 < symbolsOf (now image))
@@ -157,7 +161,7 @@ pub(crate) fn gather(
     below: Level,
     x: u64,
     sets: &mut [u64],
-    marks: &mut [u64],
+    marks: &mut [u16],
 ) -> usize
     requires { ⌜ ReadAs (now image) head
         × HasRoom 0 (now sets) (now marks) (toMeet (systemOf (now image)) (rowsOf (now image)) (blockersIn (now masks) (now levels)) (below .0) x) ⌝ }

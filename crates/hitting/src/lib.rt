@@ -3,12 +3,12 @@ use automata::image::Head;
 use blockers::Level;
 
 mod gathering; // gathering.rt: the sets that are to be met, each once
-mod marks; // marks.rt: which sets are surely new
+mod marks; // marks.rt: where a set stands, if it came before
 mod picking; // picking.rt: the states that meet them all
 
 ghost use mathlib.Core.Path.{_≡_};
 ghost use Prim.Native.Nat.{_≤_, _<_};
-ghost use lib.ListN.{length};
+ghost use lib.ListN.{length, replicate};
 ghost use Rattle.automata.specs.Image.{rowCountOf, rowsOf};
 ghost use Rattle.automata.specs.Answers.{ReadAs};
 ghost use Rattle.machine.specs.Lent.{blockersIn};
@@ -24,9 +24,9 @@ fn grow_in(
     below: Level,
     x: u64,
     sets: &mut [u64],
-    marks: &mut [u64],
+    marks: &mut [u16],
 ) -> u64
-    requires { ⌜ ReadAs (now image) head × (rowCountOf (now image) < length (now sets)) × (1 ≤ length (now marks)) ⌝ }
+    requires { ⌜ ReadAs (now image) head × (rowCountOf (now image) < length (now sets)) × (length (now sets) < 65536) × (1 ≤ length (now marks)) × (now marks ≡ replicate (length (now marks)) 0) ⌝ }
     ensures { λ r. ⌜ r ≡ byHittingSet (systemOf (now (image .entry))) (rowsOf (now (image .entry)))
         (blockersIn (now (masks .entry)) (now (levels .entry))) (below .0) x ⌝ }
 {
@@ -42,7 +42,7 @@ fn grow_short(image: &[u8], head: Head, masks: &[u64], levels: &[u32], below: Le
         (blockersIn (now (masks .entry)) (now (levels .entry))) (below .0) x ⌝ }
 {
     let mut sets = [0u64; 512];
-    let mut marks = [0u64; 64];
+    let mut marks = [0u16; 1024];
     grow_in(image, head, masks, levels, below, x, &mut sets, &mut marks)
 }
 
@@ -53,7 +53,7 @@ fn grow_long(image: &[u8], head: Head, masks: &[u64], levels: &[u32], below: Lev
         (blockersIn (now (masks .entry)) (now (levels .entry))) (below .0) x ⌝ }
 {
     let mut sets = [0u64; 4097];
-    let mut marks = [0u64; 512];
+    let mut marks = [0u16; 32768];
     grow_in(image, head, masks, levels, below, x, &mut sets, &mut marks)
 }
 

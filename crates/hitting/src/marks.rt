@@ -1,11 +1,11 @@
-// Marks of the sets that were gathered, one bit of a table for each: a set whose bit is not marked is new, and need not be looked for among the others.
-use masks::State;
+// Marks of the sets that were gathered: each set has a slot of a table, which others may share, and the slot tells the place of the last of them. So a set whose
+// slot is empty is new, and one that came before stands most often at the place that its slot tells.
 ghost use mathlib.Core.Path.{_≡_};
 ghost use Prim.Native.Nat.{_≤_, _<_};
 ghost use lib.ListN.{length};
-ghost use Rattle.hitting.specs.Marked.{mixed, bitOf, wordOf, isMarked, withMark};
+ghost use Rattle.hitting.specs.Marked.{mixed, slotOf, markOf, withMark};
 
-// The number from which a set's word and bit are taken.
+// The number from which a set's slot is taken.
 fn mix(set: u64) -> u64
     ensures { λ r. ⌜ r ≡ mixed set ⌝ }
 {
@@ -14,35 +14,33 @@ fn mix(set: u64) -> u64
     (low * 1540483477 + high * 739982445) >> 22
 }
 
-// The bit of a set.
-fn bit_of(set: u64) -> State
-    ensures { λ r. ⌜ (r .0 ≡ bitOf set) × (r .0 < 64) ⌝ }
+// The slot of a set.
+fn slot_of(marks: &[u16], set: u64) -> usize
+    requires { ⌜ 1 ≤ length (now marks) ⌝ }
+    ensures { λ r. ⌜ (r ≡ slotOf (length (now (marks .entry))) set) × (r < length (now (marks .entry))) ⌝ }
 {
-    State((mix(set) & 63) as u8)
+    mix(set) as usize & (marks.len() - 1)
 }
 
-// The word in which it is.
-fn word_of(marks: &[u64], set: u64) -> usize
-    requires { ⌜ 1 ≤ length (now marks) ⌝ }
-    ensures { λ r. ⌜ (r ≡ wordOf (length (now (marks .entry))) set) × (r < length (now (marks .entry))) ⌝ }
+fn wide(number: u16) -> usize
+    ensures { λ r. ⌜ r ≡ number ⌝ }
 {
-    (mix(set) / 64) as usize & (marks.len() - 1)
+    number as usize
 }
 
-// Whether the set's bit is marked.
-pub(crate) fn is_marked(marks: &[u64], set: u64) -> bool
+// What the set's slot has: 1 and a place, or 0.
+pub(crate) fn mark_of(marks: &[u16], set: u64) -> usize
     requires { ⌜ 1 ≤ length (now marks) ⌝ }
-    ensures { λ r. ⌜ r ≡ isMarked (now (marks .entry)) set ⌝ }
+    ensures { λ r. ⌜ r ≡ markOf (now (marks .entry)) set ⌝ }
 {
-    let word = word_of(marks, set);
-    masks::member(bit_of(set), marks[word])
+    wide(marks[slot_of(marks, set)])
 }
 
-// The set's bit is marked.
-pub(crate) fn mark(marks: &mut [u64], set: u64)
-    requires { ⌜ 1 ≤ length (now marks) ⌝ }
-    ensures { λ _. ⌜ now (marks .exit) ≡ withMark (now (marks .entry)) set ⌝ }
+// The set's slot gets 1 and the set's place.
+pub(crate) fn mark(marks: &mut [u16], set: u64, number: usize)
+    requires { ⌜ (1 ≤ length (now marks)) × (number < 65536) ⌝ }
+    ensures { λ _. ⌜ now (marks .exit) ≡ withMark (now (marks .entry)) set number ⌝ }
 {
-    let word = word_of(marks, set);
-    marks[word] = masks::insert(bit_of(set), marks[word]);
+    let slot = slot_of(marks, set);
+    marks[slot] = number as u16;
 }

@@ -1,6 +1,6 @@
 use Prim.Native.Nat.{_-_}
 use Rattle.machine.specs.Lent.{blockersIn}
-use Rattle.hitting.proofs.Gathers.{SymbolsGathered, first-room, symbols-start, symbol-known, symbols-room, symbols-go, symbols-long, words-long, symbols-end}
+use Rattle.hitting.proofs.Gathers.{SymbolsGathered, first-room, symbols-start, symbol-known, symbols-room, symbols-go, symbols-long, slots-long, symbols-end}
 use borrow.Author.Needs.{needs}
 use Rattle.hitting.proofs.gathering.gather.Statement.{statement}
 use Rattle.hitting.proofs.gathering.gather.Tie as tie
@@ -44,7 +44,7 @@ same-length : tie.Need-same-length Inv-loop μ-loop
 same-length c = search (symbols-long, needs)
 
 same-length-2 : tie.Need-same-length-2 Inv-loop μ-loop
-same-length-2 c = search (words-long, needs)
+same-length-2 c = search (slots-long, needs)
 
 returns : tie.Need-returns Inv-loop μ-loop
 returns c = search (symbols-end, needs)

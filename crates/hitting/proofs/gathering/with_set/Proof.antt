@@ -1,4 +1,4 @@
-use Rattle.hitting.proofs.Gathers.{set-empty, set-among, set-place, set-enters}
+use Rattle.hitting.proofs.Gathers.{set-empty, set-among, set-place, number-fits, set-enters}
 use borrow.Author.Needs.{needs}
 use Rattle.hitting.proofs.gathering.with_set.Statement.{statement}
 use Rattle.hitting.proofs.gathering.with_set.Tie as tie
@@ -28,8 +28,11 @@ mul-sets c = search needs
 slice-write-sets : tie.Need-slice-write-sets
 slice-write-sets c = search (set-place, needs)
 
+add-mark : tie.Need-add-mark
+add-mark c = search needs
+
 mark-requires : tie.Need-mark-requires
-mark-requires c κs = search needs
+mark-requires c κs = search (number-fits, needs)
 
 add-result : tie.Need-add-result
 add-result c = search needs
@@ -54,6 +57,7 @@ with-set-spec =
     returns-2
     mul-sets
     slice-write-sets
+    add-mark
     mark-requires
     add-result
     same-length-3
