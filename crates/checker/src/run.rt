@@ -173,41 +173,7 @@ fn drive(
     count_up(run)
 }
 
-// The run on a valid image in rooms that were checked.
-fn go(
-    image: &[u8],
-    head: Head,
-    masks: &mut [u64],
-    levels: &mut [u32],
-    entered: &mut [u64],
-    cases: &mut [u64],
-    symbols: &mut [u8],
-    hints: &[u64],
-    allowance: u64,
-    edition: u64,
-    way: u64,
-) -> Counts
-    requires { ⌜ Runnable (now image) head (roomOf (now masks) (now levels) (now entered)) (now cases) (now symbols) ⌝ }
-    ensures { λ r. ⌜ resultWith r (roomOf (now (masks .exit)) (now (levels .exit)) (now (entered .exit))) (now (cases .exit)) (now (symbols .exit))
-        ≡ machineResult (now (image .entry)) (lentOf (roomOf (now (masks .entry)) (now (levels .entry)) (now (entered .entry))) (now (cases .entry)) (now (symbols .entry))) (termsOf (now (hints .entry)) allowance edition way) ⌝ }
-{
-    clear(masks, levels, entered, cases, symbols);
-    drive(
-        image,
-        head,
-        masks,
-        levels,
-        entered,
-        cases,
-        symbols,
-        hints,
-        allowance,
-        edition,
-        way,
-    )
-}
-
-// The run on a valid image: refused where the rooms or the terms are, else it goes.
+// The run on a valid image: refused where the rooms or the terms are, else it goes, in cleared tables.
 fn run_read(
     image: &[u8],
     head: Head,
@@ -229,7 +195,8 @@ fn run_read(
     if number != 0 {
         return refuse(number);
     }
-    go(
+    clear(masks, levels, entered, cases, symbols);
+    drive(
         image,
         head,
         masks,

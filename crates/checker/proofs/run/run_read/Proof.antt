@@ -1,11 +1,12 @@
-use Rattle.checker.proofs.Checking.{run-refuses-terms, run-runnable, run-goes}
+use Rattle.checker.proofs.Checking.{run-refuses-terms, run-runnable, cleared-runnable, cleared-itself, go-is, run-goes}
 use borrow.Author.Needs.{needs}
 use Rattle.checker.proofs.run.run_read.Statement.{statement}
 use Rattle.checker.proofs.run.run_read.Tie as tie
 use Rattle.checker.proofs.run.run_read.Reads as reads
 use Rattle.checker.proofs.run.run_read.Lts as lts
 use Rattle.checker.proofs.run.check_terms.Reads as check-terms-reads
-use Rattle.checker.proofs.run.go.Reads as go-reads
+use Rattle.checker.proofs.run.clear.Reads as clear-reads
+use Rattle.checker.proofs.run.drive.Reads as drive-reads
 use Rattle.checker.proofs.run.refuse.Reads as refuse-reads
 
 check-terms-requires : tie.Need-check-terms-requires
@@ -32,8 +33,14 @@ same-length-5 c = search needs
 returns : tie.Need-returns
 returns c = run-refuses-terms _ _ _ _ _ (c .before .before .before .before .before .before .before .before .before .before .before .before .before .before .before .pre) _ (c .before .before .check-terms .ensures) _ (search needs) (c .refuse .ensures)
 
-go-requires : tie.Need-go-requires
-go-requires c κs = run-runnable (c .before .before .before .before .before .before .before .before .before .before .before .before .before .before .before .before .before .before .before .pre) _ _ _ _ _ _ _ (c .before .before .before .before .before .before .check-terms .ensures) (search needs)
+clear-requires : tie.Need-clear-requires
+clear-requires c κs = run-runnable (c .before .before .before .before .before .before .before .before .before .before .before .before .before .before .before .before .before .before .before .pre) _ _ _ _ _ _ _ (c .before .before .before .before .before .before .check-terms .ensures) (search needs) .rooms
+
+drive-requires : tie.Need-drive-requires
+drive-requires c κs =
+    let runnable = run-runnable (c .before .before .before .before .before .before .before .before .before .before .before .before .before .before .before .before .before .before .before .before .before .before .before .before .before .before .before .before .before .before .before .before .before .before .before .pre) _ _ _ _ _ _ _ (c .before .before .before .before .before .before .before .before .before .before .before .before .before .before .before .before .before .before .before .before .before .before .check-terms .ensures) (search needs) in
+    let cleared = c .before .before .before .before .before .before .before .before .before .before .before .before .before .before .before .clear .ensures in
+    (cleared-runnable runnable cleared, cleared-itself runnable cleared)
 
 same-length-6 : tie.Need-same-length-6
 same-length-6 c = search needs
@@ -51,7 +58,12 @@ same-length-10 : tie.Need-same-length-10
 same-length-10 c = search needs
 
 returns-2 : tie.Need-returns-2
-returns-2 c = run-goes _ _ _ _ _ (c .before .before .before .before .before .before .before .before .before .before .before .before .before .before .before .before .before .before .before .before .before .before .before .before .before .before .before .before .before .before .pre) _ (c .before .before .before .before .before .before .before .before .before .before .before .before .before .before .before .before .before .check-terms .ensures) _ (search needs) (c .before .before .before .before .before .before .before .before .before .before .go .ensures)
+returns-2 c =
+    let none = c .before .before .before .before .before .before .before .before .before .before .before .before .before .before .before .before .before .before .before .before .before .before .before .before .before .before .before .before .before .before .before .before .if1 .left in
+    let start = c .before .before .before .before .before .before .before .before .before .before .before .before .before .before .before .before .before .before .before .before .before .before .before .before .before .before .before .before .before .before .before .before .before in
+    let runnable = run-runnable (start .before .before .before .before .before .before .before .before .before .before .before .before .before .pre) _ _ _ _ _ _ _ (start .check-terms .ensures) none in
+    run-goes _ _ _ _ _ (start .before .before .before .before .before .before .before .before .before .before .before .before .before .pre) _ (start .check-terms .ensures) _ none
+    (go-is runnable (c .before .before .before .before .before .before .before .before .before .before .before .before .before .before .before .before .before .before .before .before .before .before .before .before .before .before .clear .ensures) _ (c .before .before .before .before .before .before .before .before .before .before .drive .ensures))
 
 pub run-read-spec : {M : Type 1} → statement M
 run-read-spec =
@@ -65,7 +77,8 @@ run-read-spec =
     same-length-4
     same-length-5
     returns
-    go-requires
+    clear-requires
+    drive-requires
     same-length-6
     same-length-7
     same-length-8
