@@ -166,10 +166,10 @@ module _ {image : List ℕ} {head : Head} {room room′ : BlockerRoom} {cases sy
         other-places (length cases) (length cases′) symbols symbols′ (symbolsIn n) (rooms .word-room) (rooms′ .word-room) (cleared .new-symbols),
       )
 
-  pub go-is : (terms : Terms) {result : Result} → result ≡ machineResult image (lentOf room′ cases′ symbols′) terms
+  pub drive-cleared : (terms : Terms) {result : Result} → result ≡ machineResult image (lentOf room′ cases′ symbols′) terms
       → result ≡ machineResult image (lentOf room cases symbols) terms
   unfolding machineResult
-  go-is terms e =
+  drive-cleared terms e =
       e
       ∙ result-cleared (endOf image (roomsOf (lentOf room′ cases′ symbols′)) terms)
       ∙ ap₂ (λ (b w : ℕ). resultOf (lentOf room cases symbols) (endOf image (record { blockers = b; word = w }) terms))

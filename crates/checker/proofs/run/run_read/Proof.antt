@@ -1,4 +1,4 @@
-use Rattle.checker.proofs.Checking.{run-refuses-terms, run-runnable, cleared-runnable, cleared-itself, go-is, run-goes}
+use Rattle.checker.proofs.Checking.{run-refuses-terms, run-runnable, cleared-runnable, cleared-itself, drive-cleared, run-goes}
 use borrow.Author.Needs.{needs}
 use Rattle.checker.proofs.run.run_read.Statement.{statement}
 use Rattle.checker.proofs.run.run_read.Tie as tie
@@ -63,7 +63,7 @@ returns-2 c =
     let start = c .before .before .before .before .before .before .before .before .before .before .before .before .before .before .before .before .before .before .before .before .before .before .before .before .before .before .before .before .before .before .before .before .before in
     let runnable = run-runnable (start .before .before .before .before .before .before .before .before .before .before .before .before .before .pre) _ _ _ _ _ _ _ (start .check-terms .ensures) none in
     run-goes _ _ _ _ _ (start .before .before .before .before .before .before .before .before .before .before .before .before .before .pre) _ (start .check-terms .ensures) _ none
-    (go-is runnable (c .before .before .before .before .before .before .before .before .before .before .before .before .before .before .before .before .before .before .before .before .before .before .before .before .before .before .clear .ensures) _ (c .before .before .before .before .before .before .before .before .before .before .drive .ensures))
+    (drive-cleared runnable (c .before .before .before .before .before .before .before .before .before .before .before .before .before .before .before .before .before .before .before .before .before .before .before .before .before .before .clear .ensures) _ (c .before .before .before .before .before .before .before .before .before .before .drive .ensures))
 
 pub run-read-spec : {M : Type 1} → statement M
 run-read-spec =
