@@ -419,6 +419,36 @@ fn growths_of_the_largest_models() {
 
 /// Runs by either way, lent other hints, rooms and allowances: of those in one edition, all that have a
 /// verdict have the same, and words of one length.
+/// From few rows to many, each case once or each twice, so that tables are nearly full, full and over.
+#[test]
+fn growths_by_number_of_rows() {
+    let mut random = Random::seeded(119);
+    let mut comparison = Comparison::default();
+    let mut grown = Grown::default();
+    for rows in [
+        65, 128, 255, 256, 257, 510, 511, 512, 513, 514, 1_023, 1_024, 1_025, 2_048, 4_095,
+    ] {
+        for times in [1, 2] {
+            let mut model = largest(&mut random, 1);
+            let others = (rows - model.rows[0].len()) / times;
+            model.rows[1].truncate(others);
+            model.rows[1] = model.rows[1].repeat(times);
+            assert!(model.row_count() == rows || times == 2);
+            let lent = Lent {
+                before: Tables::filled(&mut random, 64, 64),
+                terms: Terms {
+                    way: 1,
+                    ..Terms::plain(12)
+                },
+            };
+            comparison.run(&model.image(), &lent, &model);
+            grown.observe(&model, &lent);
+        }
+    }
+    println!("by number of rows: {grown:?}: {}", comparison.seen);
+    assert!(grown.growths[1] > 60 && grown.most_forbidden > 3_500);
+}
+
 #[test]
 fn runs_by_both_ways_agree() {
     let mut random = Random::seeded(115);

@@ -37,7 +37,12 @@ module _ {image : List ℕ} {head : Head} (read : ReadAs image head) where
         → HasRoom 0 places marks (toMeet (systemOf image) (rowsOf image) table below X)
     room-enough marks l narrow some none =
         record {
-          used = record { gathered = record { stands = refl; fits = omega arith }; some-slot = some; all-marked = λ one m. absurd (in-none m); in-use = λ slot. omega (arith, ap (λ (table : List ℕ). getD table slot 0) none, zero-at (length marks) slot) };
+          used = record {
+            gathered = record { stands = refl; fits = omega arith };
+            some-slot = some;
+            all-marked = λ one m. absurd (in-none m);
+            in-use = λ slot. omega (arith, ap (λ (table : List ℕ). getD table slot 0) none, zero-at (length marks) slot);
+          };
           narrow = narrow;
           room = omega (arith, few-sets image (read .valid) table below X);
         }

@@ -26,7 +26,8 @@ fn grow_in(
     sets: &mut [u64],
     marks: &mut [u16],
 ) -> u64
-    requires { ⌜ ReadAs (now image) head × (rowCountOf (now image) < length (now sets)) × (length (now sets) < 65536) × (1 ≤ length (now marks)) × (now marks ≡ replicate (length (now marks)) 0) ⌝ }
+    requires { ⌜ ReadAs (now image) head × (rowCountOf (now image) < length (now sets)) × (length (now sets) < 65536)
+        × (1 ≤ length (now marks)) × (now marks ≡ replicate (length (now marks)) 0) ⌝ }
     ensures { λ r. ⌜ r ≡ byHittingSet (systemOf (now (image .entry))) (rowsOf (now (image .entry)))
         (blockersIn (now (masks .entry)) (now (levels .entry))) (below .0) x ⌝ }
 {

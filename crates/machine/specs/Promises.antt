@@ -217,7 +217,7 @@ pub record Promises : Type 0 where
   -- 02, 7: "Show that it passes the block test whenever X does": for either way, every table, level and X
   pub grows-passing : (image : List ℕ) (way : ℕ) (table : List Blocker) (below X : ℕ) → Valid image → T (passes (systemOf image) table below X X)
       → T (passes (systemOf image) table below X (growthOf way (systemOf image) (rowsOf image) table below X))
-  -- "as every X that a run from its begin grows does": whatever a step blocks, one level above `below`
+  -- "as every X that a run from its begin grows does": whatever case a step of a run blocks, by the table at that time
   pub blocked-passes : (image : List ℕ) (rooms : Rooms) (terms : Terms) (X : Pending) (rest : List Pending) (c d : Configuration) → Valid image
       → WorksIn (systemOf image) rooms (terms .edition) (givenOf image terms) c → c .pending ≡ X ∷ rest → step (systemOf image) (givenOf image terms) c ≡ blocks d
       → T (passes (systemOf image) (c .table) (c .level - suc (length rest)) (X .case) (X .case))
