@@ -1,37 +1,13 @@
-//! The editions of a run: edition 1 answers a final start by 1 and edition 2 by 5, in all else they are
-//! alike, and every other edition is refused.
+//! The editions of a run: edition 1 answers a final start by 1 and edition 2 by 5, and in all else they
+//! are alike. Every other edition is refused, in `run_choices`.
 
-use afa_tests::afa::run::run_untouchable;
 use afa_tests::afa::Library;
 use afa_tests::compare::run::Comparison;
-use afa_tests::generate::runs::{affordable_steps, lent, run_model, unknown_edition, Earlier};
+use afa_tests::generate::runs::{affordable_steps, lent, run_model, Earlier};
 use afa_tests::generate::{self, aim};
-use afa_tests::guarded::{Untouchable, EDGES};
 use afa_tests::image::{model_a, model_b, model_c, model_d, rings, Model};
 use afa_tests::random::Random;
 use afa_tests::tables::{Answer, Lent, Tables, Terms, EDITIONS, WAYS};
-
-/// Numbers beside the known editions, and some that are one when cut down to 8, 16, 32 or 63 bits.
-const UNKNOWN: [u64; 18] = [
-    0,
-    3,
-    4,
-    5,
-    36,
-    (1 << 8) + 1,
-    (1 << 8) + 2,
-    (1 << 16) + 1,
-    (1 << 16) + 2,
-    1 << 32,
-    (1 << 32) + 1,
-    (1 << 32) + 2,
-    (1 << 32) + 3,
-    1 << 63,
-    (1 << 63) + 1,
-    (1 << 63) + 2,
-    u64::MAX - 1,
-    u64::MAX,
-];
 
 /// The answer and the tables after it in each edition, all else being lent alike.
 fn in_editions(comparison: &mut Comparison, model: &Model, lent: &Lent) -> [(Answer, Tables); 2] {
@@ -198,75 +174,4 @@ fn starts_that_are_not_final() {
     println!("{models} models in both editions: {}", comparison.seen);
     comparison.seen.assert_each_number(300);
     assert!(comparison.seen.by_hint > 1_000);
-}
-
-fn expect_refused(comparison: &mut Comparison, model: &Model, lent: &Lent) {
-    let (answer, after) = comparison.run(&model.image(), lent, model);
-    let edition = lent.terms.edition;
-    let expected = Answer::of_numbers([36, 0, 0, 0, 0]);
-    assert_eq!(answer, expected, "{model}, edition {edition}");
-    assert!(after == lent.before, "{model}, edition {edition}");
-}
-
-/// Whether the start is final or not, and whatever the allowance and the rooms.
-#[test]
-fn unknown_editions() {
-    let mut random = Random::seeded(105);
-    let mut comparison = Comparison::default();
-    for edition in UNKNOWN {
-        for model in [model_a(), model_b(), model_c(), model_d()] {
-            for allowance in [0, 1, 100_000, u64::MAX] {
-                for places in [0, 1, 4] {
-                    let lent = Lent {
-                        before: Tables::filled(&mut random, places, places),
-                        terms: Terms {
-                            hints: vec![4; places],
-                            allowance,
-                            edition,
-                            way: random.pick(&WAYS),
-                        },
-                    };
-                    expect_refused(&mut comparison, &model, &lent);
-                }
-            }
-        }
-    }
-    for number in 0..6_000 {
-        let mut model = run_model(&mut random);
-        if number % 2 == 0 {
-            aim(&mut random, &mut model, &[]);
-        }
-        let earlier = Earlier::of_either_way(&mut random, &model.image(), 8);
-        let mut lent = lent(&mut random, &model, &earlier, 8);
-        if number % 400 == 0 {
-            lent.before = Tables::filled(&mut random, 65_536, 65_536);
-        }
-        lent.terms.edition = unknown_edition(&mut random);
-        expect_refused(&mut comparison, &model, &lent);
-    }
-    println!("unknown editions: {}", comparison.seen);
-}
-
-/// Tables and hints are not even read.
-#[test]
-fn unknown_editions_touch_nothing() {
-    let memory = Untouchable::with_room(65_536 * size_of::<u64>());
-    for model in [model_c(), model_d()] {
-        for edition in UNKNOWN {
-            for places in [0, 4, 65_536] {
-                for edge in EDGES {
-                    let mut counts = [7; 4];
-                    let image = model.image();
-                    let lengths = [places; 6];
-                    for way in WAYS {
-                        let choice = [edition, way];
-                        let answered =
-                            run_untouchable(&image, lengths, choice, &memory, edge, &mut counts);
-                        let lent = format!("{model}, edition {edition}, {places} places");
-                        assert_eq!((answered, counts), (36, [0; 4]), "{lent}");
-                    }
-                }
-            }
-        }
-    }
 }

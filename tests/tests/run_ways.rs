@@ -1,46 +1,20 @@
 //! The ways to grow a blocker: state by state, and through a hitting set. Runs by either way agree on
-//! their verdicts; what the second grows is what its sentences say and passes the block test; and every
-//! other way is refused. Lines that are known beforehand, by either way, are in `run_examples`.
+//! their verdicts, and what the second grows is what its sentences say and passes the block test. Lines
+//! that are known beforehand, by either way, are in `run_examples`; every other way is refused, in
+//! `run_choices`.
 
-use afa_tests::afa::run::run_untouchable;
 use afa_tests::compare::run::Comparison;
 use afa_tests::generate::aim;
-use afa_tests::generate::runs::{
-    affordable_steps, lent, run_model, unknown_edition, unknown_way, Earlier,
-};
+use afa_tests::generate::runs::{affordable_steps, lent, run_model, Earlier};
 use afa_tests::generate::ways::{counters, largest, one_in_all, primes, worst};
-use afa_tests::guarded::{Untouchable, EDGES};
 use afa_tests::hitting::Growth;
-use afa_tests::image::{all_states, model_a, model_b, model_c, model_d, Model};
+use afa_tests::image::{all_states, Model};
 use afa_tests::machine::{observed_run, Event};
 use afa_tests::random::Random;
 use afa_tests::search::{assert_right, shortest_word};
 use afa_tests::tables::{Answer, Lent, Tables, Terms, CHOICES, EDITIONS, WAYS};
 
 const MODELS: usize = 4_000;
-
-/// Numbers beside the known ways, and some that are one when cut down to 8, 16, 32 or 63 bits.
-const UNKNOWN: [u64; 19] = [
-    2,
-    3,
-    4,
-    5,
-    37,
-    1 << 8,
-    (1 << 8) + 1,
-    1 << 16,
-    (1 << 16) + 1,
-    1 << 31,
-    (1 << 31) + 1,
-    1 << 32,
-    (1 << 32) + 1,
-    (1 << 32) + 2,
-    1 << 33,
-    1 << 63,
-    (1 << 63) + 1,
-    u64::MAX - 1,
-    u64::MAX,
-];
 
 /// What was seen of growths.
 #[derive(Debug, Default)]
@@ -594,80 +568,4 @@ fn hints_go_first() {
          growth, {seconds} with a second block"
     );
     assert!(unlike > 500 && seconds > 300);
-}
-
-fn expect_refused(comparison: &mut Comparison, model: &Model, lent: &Lent, number: u64) {
-    let (answer, after) = comparison.run(&model.image(), lent, model);
-    let Terms { edition, way, .. } = lent.terms;
-    let expected = Answer::of_numbers([number, 0, 0, 0, 0]);
-    assert_eq!(answer, expected, "{model}, edition {edition}, way {way}");
-    assert!(
-        after == lent.before,
-        "{model}, edition {edition}, way {way}"
-    );
-}
-
-/// Whether the start is final or not, and whatever the allowance and the rooms; after an edition that is
-/// unknown too.
-#[test]
-fn unknown_ways() {
-    let mut random = Random::seeded(117);
-    let mut comparison = Comparison::default();
-    for way in UNKNOWN {
-        for model in [model_a(), model_b(), model_c(), model_d()] {
-            for allowance in [0, 1, 100_000, u64::MAX] {
-                for (edition, number) in [(1, 37), (2, 37), (0, 36), (3, 36)] {
-                    let places = random.pick(&[0, 1, 4]);
-                    let lent = Lent {
-                        before: Tables::filled(&mut random, places, places),
-                        terms: Terms {
-                            hints: vec![4; places],
-                            allowance,
-                            edition,
-                            way,
-                        },
-                    };
-                    expect_refused(&mut comparison, &model, &lent, number);
-                }
-            }
-        }
-    }
-    for number in 0..6_000 {
-        let mut model = run_model(&mut random);
-        if number % 2 == 0 {
-            aim(&mut random, &mut model, &[]);
-        }
-        let earlier = Earlier::of_either_way(&mut random, &model.image(), 8);
-        let mut lent = lent(&mut random, &model, &earlier, 8);
-        if number % 400 == 0 {
-            lent.before = Tables::filled(&mut random, 65_536, 65_536);
-        }
-        lent.terms.way = unknown_way(&mut random);
-        expect_refused(&mut comparison, &model, &lent, 37);
-        lent.terms.edition = unknown_edition(&mut random);
-        expect_refused(&mut comparison, &model, &lent, 36);
-    }
-    println!("unknown ways: {}", comparison.seen);
-}
-
-/// Tables and hints are not even read.
-#[test]
-fn unknown_ways_touch_nothing() {
-    let memory = Untouchable::with_room(65_536 * size_of::<u64>());
-    for model in [model_c(), model_d()] {
-        for way in UNKNOWN {
-            for edition in EDITIONS {
-                for places in [0, 4, 65_536] {
-                    for edge in EDGES {
-                        let (image, lengths) = (model.image(), [places; 6]);
-                        let (choice, mut counts) = ([edition, way], [7; 4]);
-                        let answered =
-                            run_untouchable(&image, lengths, choice, &memory, edge, &mut counts);
-                        let lent = format!("{model}, way {way}, {places} places");
-                        assert_eq!((answered, counts), (37, [0; 4]), "{lent}");
-                    }
-                }
-            }
-        }
-    }
 }
