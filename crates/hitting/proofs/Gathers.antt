@@ -1,5 +1,5 @@
 -- The sets as they gather in the table: one set, the rows of a symbol, and all symbols. Assumes nothing.
-use Prim.Native.Nat.{ℕ, zero, suc, _+_, _-_, _≤_, _<_}
+use Prim.Native.Nat.{ℕ, suc, _+_, _-_, _≤_, _<_}
 use mathlib.Core.Path.{_≡_, refl, sym, ap, subst, _∙_}
 use mathlib.Core.Bool.{Bool, true, false}
 use mathlib.Core.List.{List, [], _∷_, _++_}
@@ -18,7 +18,7 @@ use Rattle.masks.specs.Sets.{member, without}
 use Rattle.automata.specs.Image.{Row, symbolsOf, rowAt, rowsOf}
 use Rattle.automata.specs.Automaton.{backward}
 use Rattle.automata.specs.Answers.{ReadAs}
-use Rattle.automata.specs.Walk.{Walks, rowOf, Span, AtRow, RowsStand, rowsBetween}
+use Rattle.automata.specs.Walk.{rowOf, Span, AtRow, RowsStand, rowsBetween}
 use Rattle.automata.specs.declared.image.Head.{Head}
 use Rattle.automata.specs.declared.rows.Row as Read
 use Rattle.automata.proofs.Reading.{head-states, head-symbols, head-initial}

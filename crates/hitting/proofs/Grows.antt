@@ -14,7 +14,7 @@ use Rattle.automata.proofs.ValidImage.{valid-kept}
 use Rattle.automata.proofs.Reading.{head-states, head-rows}
 use Rattle.machine.specs.Machine.{Blocker}
 use Rattle.machine.specs.Runs.{systemOf}
-use Rattle.machine.specs.Hitting.{others, toMeet, picked, byHittingSet}
+use Rattle.machine.specs.Hitting.{toMeet, picked, byHittingSet}
 use Rattle.hitting.specs.Sets.{Gathered, HasRoom}
 use Rattle.hitting.proofs.Few.{few-sets}
 
