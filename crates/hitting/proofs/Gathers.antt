@@ -7,13 +7,11 @@ use native.Mathlib.Nat.{sub-zero}
 use native.Mathlib.Numerals.{add-one}
 use native.Mathlib.Omega.{arith}
 use borrow.Author.Tests.{eq-eqb, ne-eqb}
-use lib.Dec.{T, eqb, eqb-refl}
-use lib.ListN.{length, length-append, getD, take, drop, set, length-set}
+use lib.Dec.{eqb}
+use lib.ListN.{length, length-append, getD, take, set, length-set}
 use lib.Seq.{length-take-le, take-suc-set, getD-take}
 use Rattle.lists.specs.Tests.{_or_, neg, choose}
 use Rattle.lists.specs.Lists.{any, keep}
-use Rattle.lists.proofs.Tests.{is-true}
-use Rattle.lists.proofs.Lists.{in-none, each-more, each-joined, some-any, at-in}
 use Rattle.masks.specs.Sets.{member, without}
 use Rattle.automata.specs.Image.{Row, symbolsOf, rowAt, rowsOf}
 use Rattle.automata.specs.Automaton.{backward}
@@ -28,75 +26,52 @@ use Rattle.machine.specs.Lent.{column}
 use Rattle.machine.specs.Runs.{systemOf}
 use Rattle.machine.specs.Hitting.{cover, casesOutside, casesFrom, forbidden, withSet, withCases, toMeet}
 use Rattle.machine.proofs.Counted.{with-cases-joined, with-cases-longer}
-use Rattle.hitting.specs.Marked.{slotOf, markOf, withMark}
+use Rattle.hitting.specs.Chained.{slotOf}
 use Rattle.hitting.specs.Sets.{Gathered, Filled, HasRoom, withRows, withSymbol}
-use Rattle.hitting.proofs.Table.{next-set, no-set}
-use Rattle.hitting.proofs.Marking.{with-mark-long, marks-few, mark-stays, mark-made, unmarked-new}
+use Rattle.hitting.proofs.Linking.{one-more, Looking, told-below, told-linked, looking-found, looking-nearer, looking-goes}
 
--- the search for a set among the first places, before place i
-pub record AmongTried (table : List ℕ) (count one i : ℕ) : Type 0 where
-  pub fits : count ≤ length table
-  pub left : any (eqb one) (drop i (take count table)) ≡ any (eqb one) (take count table)
+-- the search for a set along its chain, in the table
+module _ {table slots links : List ℕ} {count one number : ℕ} (filled : Filled (take count table) count table slots links)
+    (looking : Looking (take count table) slots links one number) (some : number ≡ 0 → ⊥) where
+  place-used : number - 1 < count
+  place-used = omega (arith, told-below looking some, length-take-le count table (filled .gathered .fits))
 
-pub among-starts : {table : List ℕ} {count one : ℕ} → count ≤ length table → AmongTried table count one 0
-among-starts l = record { fits = l; left = refl }
+  same-set : getD (take count table) (number - 1) 0 ≡ getD table (number - 1) 0
+  same-set = getD-take count table (number - 1) 0 place-used
 
-module _ {table : List ℕ} {count one i : ℕ} (tried : AmongTried table count one i) where
-  pub among-inside : i < count → i < length table
-  among-inside l = omega (arith, tried .fits)
+  pub place-in : number - 1 < length table
+  place-in = omega (arith, place-used, filled .gathered .fits)
 
-  pub among-here : i < count → one ≡ getD table i 0 → true ≡ any (eqb one) (take count table)
-  unfolding any _or_
-  among-here l e = sym (sym (tried .left) ∙ rw (next-set table count i (tried .fits) l, eq-eqb one (getD table i 0) e))
+  pub link-in : number - 1 < length links
+  link-in = told-linked looking some
 
-  pub among-goes : i < count → (one ≡ getD table i 0 → ⊥) → AmongTried table count one (i + 1)
-  unfolding any _or_
-  among-goes l n =
-      let step : any (eqb one) (drop i (take count table)) ≡ any (eqb one) (drop (i + 1) (take count table)) =
-      rw (next-set table count i (tried .fits) l, ne-eqb one (getD table i 0) n) in
-      record { fits = tried .fits; left = sym step ∙ tried .left }
+  pub is-found : getD table (number - 1) 0 ≡ one → true ≡ any (eqb one) (take count table)
+  is-found e = looking-found looking some (same-set ∙ e)
 
-  pub among-nowhere : count ≤ i → false ≡ any (eqb one) (take count table)
-  unfolding any
-  among-nowhere l = sym (sym (tried .left) ∙ rw (no-set table count i (tried .fits) l))
+  pub look-nearer : (next : ℕ) → next ≡ getD links (number - 1) 0 → next < number
+  look-nearer next is = looking-nearer looking some next is
 
--- a set that is looked for by its mark
-module _ (sets marks : List ℕ) (count one number : ℕ) (filled : Filled (take count sets) count sets marks) (is : number ≡ markOf marks one) where
-  pub not-there : number ≡ 0 → false ≡ any (eqb one) (take count sets)
-  not-there z = sym (unmarked-new marks (take count sets) one (filled .all-marked) (sym is ∙ z))
+  pub look-on : (next : ℕ) → next ≡ getD links (number - 1) 0 → (getD table (number - 1) 0 ≡ one → ⊥) → Looking (take count table) slots links one next
+  look-on next is other = looking-goes looking some next is (λ e. other (sym same-set ∙ e))
 
-  module _ (some : number ≡ 0 → ⊥) where
-    place-used : number - 1 < count
-    unfolding markOf
-    place-used = omega (arith, is, filled .in-use (slotOf (length marks) one))
-
-    pub marked-place : number - 1 < length sets
-    marked-place = omega (arith, place-used, filled .gathered .fits)
-
-    pub there : getD sets (number - 1) 0 ≡ one → true ≡ any (eqb one) (take count sets)
-    there e =
-        let here : getD (take count sets) (number - 1) 0 ≡ one = getD-take count sets (number - 1) 0 place-used ∙ e in
-        let listed = at-in (take count sets) (number - 1) (omega (arith, place-used, length-take-le count sets (filled .gathered .fits))) in
-        sym (is-true _ (some-any (eqb one) (take count sets) _ listed (subst (λ (x : ℕ). T (eqb one x)) (sym here) (eqb-refl one))))
-
--- one set: it is empty, it is there, or it enters and is marked
-module _ (table marks : List ℕ) (count one : ℕ) (room : HasRoom count table marks (withSet (take count table) one)) where
+-- one set: it is empty, it is there, or it enters and is linked
+module _ (table slots links : List ℕ) (count one : ℕ) (room : HasRoom count table slots links (withSet (take count table) one)) where
   or-last : (a b : Bool) → b ≡ true → a or b ≡ true
   unfolding _or_
   or-last true b e = refl
   or-last false b e = e
 
-  stays : eqb one 0 or any (eqb one) (take count table) ≡ true → Filled (withSet (take count table) one) count table marks
+  stays : eqb one 0 or any (eqb one) (take count table) ≡ true → Filled (withSet (take count table) one) count table slots links
   unfolding withSet choose
   stays e =
       let same : withSet (take count table) one ≡ take count table = rw e in
-      subst (λ (sets : List ℕ). Filled sets count table marks) (sym same) (room .used)
+      subst (λ (sets : List ℕ). Filled sets count table slots links) (sym same) (room .used)
 
-  pub set-empty : one ≡ 0 → Filled (withSet (take count table) one) count table marks
+  pub set-empty : one ≡ 0 → Filled (withSet (take count table) one) count table slots links
   unfolding _or_
   set-empty e = stays (rw (eq-eqb one 0 e))
 
-  pub set-among : (b : Bool) → b ≡ any (eqb one) (take count table) → b ≡ true → Filled (withSet (take count table) one) count table marks
+  pub set-among : (b : Bool) → b ≡ any (eqb one) (take count table) → b ≡ true → Filled (withSet (take count table) one) count table slots links
   set-among b e t = stays (or-last _ _ (sym e ∙ t))
 
   module _ (b : Bool) (some : one ≡ 0 → ⊥) (e : b ≡ any (eqb one) (take count table)) (f : b ≡ false) where
@@ -109,53 +84,57 @@ module _ (table marks : List ℕ) (count one : ℕ) (room : HasRoom count table 
         let fits = room .used .gathered .fits in
         omega (arith, room .room, ap length new, length-append (take count table) (one ∷ []), length-take-le count table fits)
 
-    pub number-fits : count + 1 < 65536
-    number-fits = omega (arith, set-place, room .narrow)
+    pub place-linked : count < length links
+    place-linked = omega (arith, set-place, room .used .links-fit)
 
-    pub set-enters : (after : List ℕ) → after ≡ withMark marks one (count + 1) → Filled (withSet (take count table) one) (count + 1) (set table count one) after
-    set-enters after made =
-        let some-slot = room .used .some-slot in
-        subst (λ (sets : List ℕ). Filled sets (count + 1) (set table count one) after) (sym new)
+    pub place-fits : count + 1 < 65536
+    place-fits = omega (arith, set-place, room .used .narrow)
+
+    pub set-enters : (slots-after links-after : List ℕ) → slots-after ≡ set slots (slotOf (length slots) one) (count + 1)
+        → links-after ≡ set links count (getD slots (slotOf (length slots) one) 0)
+        → Filled (withSet (take count table) one) (count + 1) (set table count one) slots-after links-after
+    set-enters slots-after links-after put linked =
+        let long = length-take-le count table (room .used .gathered .fits) in
+        let more = one-more (room .used .chained) one (omega (arith, long, place-linked)) in
+        subst (λ (sets : List ℕ). Filled sets (count + 1) (set table count one) slots-after links-after) (sym new)
         (record {
           gathered = record {
             stands = ap (λ (k : ℕ). take k (set table count one)) (add-one count) ∙ take-suc-set table count one set-place;
             fits = omega (arith, set-place, length-set table count one);
           };
-          some-slot = omega (arith, some-slot, ap length made, with-mark-long marks some-slot one (count + 1));
-          all-marked =
-              rw made
-              (each-joined (take count table) (λ other m. mark-stays marks some-slot one (count + 1) (omega arith) other (room .used .all-marked other m))
-              (each-more (mark-made marks some-slot one (count + 1) (omega arith)) (λ other m. absurd (in-none m))));
-          in-use = rw made (marks-few marks some-slot one (count + 1) (count + 1) (omega arith) (λ slot. omega (arith, room .used .in-use slot)));
+          chained = rw (put, linked, add-one count) (rw long at more);
+          links-fit =
+              omega (arith, room .used .links-fit, length-set table count one, ap length linked, length-set links count (getD slots (slotOf (length slots) one) 0));
+          narrow = omega (arith, room .used .narrow, length-set table count one);
         })
 
 -- one row: its state is in b, or what is left of its case enters
 module _ (image : List ℕ) (at : ℕ) (row : Read.Row) (is : rowOf row ≡ rowAt image at) (b X : ℕ) (inside : Bool) (test : inside ≡ member (row .state .0) b)
-    (table marks : List ℕ) (count : ℕ) (room : HasRoom count table marks (withRows X b (take count table) (rowAt image at ∷ []))) where
+    (table slots links : List ℕ) (count : ℕ) (room : HasRoom count table slots links (withRows X b (take count table) (rowAt image at ∷ []))) where
   of-row : withRows X b (take count table) (rowOf row ∷ []) ≡ withRows X b (take count table) (rowAt image at ∷ [])
   of-row = ap (λ (r : Row). withRows X b (take count table) (r ∷ [])) is
 
-  pub row-inside : inside ≡ true → Filled (withRows X b (take count table) (rowAt image at ∷ [])) count table marks
+  pub row-inside : inside ≡ true → Filled (withRows X b (take count table) (rowAt image at ∷ [])) count table slots links
   unfolding casesOutside keep choose neg column withCases
   row-inside t =
       let same : withRows X b (take count table) (rowAt image at ∷ []) ≡ take count table = sym of-row ∙ rw (← test, t) in
-      subst (λ (sets : List ℕ). Filled sets count table marks) (sym same) (room .used)
+      subst (λ (sets : List ℕ). Filled sets count table slots links) (sym same) (room .used)
 
   module _ (left : ℕ) (is-left : left ≡ without (row .case) X) (f : inside ≡ false) where
     row-new : withSet (take count table) left ≡ withRows X b (take count table) (rowAt image at ∷ [])
     unfolding casesOutside keep choose neg column withCases
     row-new = sym (rw (← test, f, is-left)) ∙ of-row
 
-    pub row-room : HasRoom count table marks (withSet (take count table) left)
+    pub row-room : HasRoom count table slots links (withSet (take count table) left)
     row-room = rw row-new room
 
-    pub row-outside : (r : ℕ) (after marks-after : List ℕ) → Filled (withSet (take count table) left) r after marks-after
-        → Filled (withRows X b (take count table) (rowAt image at ∷ [])) r after marks-after
-    row-outside r after marks-after filled = rw (← row-new) filled
+    pub row-outside : (r : ℕ) (after slots-after links-after : List ℕ) → Filled (withSet (take count table) left) r after slots-after links-after
+        → Filled (withRows X b (take count table) (rowAt image at ∷ [])) r after slots-after links-after
+    row-outside r after slots-after links-after filled = rw (← row-new) filled
 
 -- what is filled with sets holds them in its first places
-first-filled : {sets : List ℕ} {count : ℕ} {table marks : List ℕ} → Filled sets count table marks → Filled (take count table) count table marks
-first-filled {count = count} {table = table} {marks = marks} filled = subst (λ (s : List ℕ). Filled s count table marks) (sym (filled .gathered .stands)) filled
+first-filled : {sets : List ℕ} {count : ℕ} {table slots links : List ℕ} → Filled sets count table slots links → Filled (take count table) count table slots links
+first-filled {count = count} {table = table} {slots = slots} {links = links} filled = subst (λ (s : List ℕ). Filled s count table slots links) (sym (filled .gathered .stands)) filled
 
 -- rows joined
 outside-first : (b : ℕ) (row : Row) (rows : List Row) → casesOutside b (row ∷ rows) ≡ casesOutside b (row ∷ []) ++ casesOutside b rows
@@ -172,22 +151,22 @@ first-then : (X b : ℕ) (sets : List ℕ) (row : Row) (rows : List Row)
 first-then X b sets row rows = ap (withCases X sets) (outside-first b row rows) ∙ with-cases-joined X sets (casesOutside b (row ∷ [])) (casesOutside b rows)
 
 -- the rows from start to end, before the row at `at`: those ahead give what all give
-pub record RowsGathered (image : List ℕ) (start end b X : ℕ) (before marked : List ℕ) (count total at : ℕ) (table marks : List ℕ) : Type 0 where
+pub record RowsGathered (image : List ℕ) (start end b X : ℕ) (before slotted linked : List ℕ) (count total at : ℕ) (table slots links : List ℕ) : Type 0 where
   pub at-row : AtRow image start end at
-  pub used : Filled (take total table) total table marks
+  pub used : Filled (take total table) total table slots links
   pub same : length table ≡ length before
-  pub same-slots : length marks ≡ length marked
+  pub same-slots : length slots ≡ length slotted
+  pub same-links : length links ≡ length linked
   pub room : length (withRows X b (take count before) (rowsBetween image start end)) ≤ length before
-  pub narrow : length before < 65536
   pub left : withRows X b (take total table) (rowsBetween image at end) ≡ withRows X b (take count before) (rowsBetween image start end)
 
-pub rows-start : {image : List ℕ} {start end b X : ℕ} {table marks : List ℕ} {count : ℕ} → Span image start end
-    → HasRoom count table marks (withRows X b (take count table) (rowsBetween image start end))
-    → RowsGathered image start end b X table marks count count start table marks
-rows-start span room = record { at-row = first-row span; used = room .used; same = refl; same-slots = refl; room = room .room; narrow = room .narrow; left = refl }
+pub rows-start : {image : List ℕ} {start end b X : ℕ} {table slots links : List ℕ} {count : ℕ} → Span image start end
+    → HasRoom count table slots links (withRows X b (take count table) (rowsBetween image start end))
+    → RowsGathered image start end b X table slots links count count start table slots links
+rows-start span room = record { at-row = first-row span; used = room .used; same = refl; same-slots = refl; same-links = refl; room = room .room; left = refl }
 
-module _ {image : List ℕ} {start end b X : ℕ} {before marked : List ℕ} {count total at : ℕ} {table marks : List ℕ}
-    (so-far : RowsGathered image start end b X before marked count total at table marks) where
+module _ {image : List ℕ} {start end b X : ℕ} {before slotted linked : List ℕ} {count total at : ℕ} {table slots links : List ℕ}
+    (so-far : RowsGathered image start end b X before slotted linked count total at table slots links) where
   pub row-stands : at < end → RowsStand image 1 at
   row-stands l = one-stands (so-far .at-row) l
 
@@ -199,11 +178,10 @@ module _ {image : List ℕ} {start end b X : ℕ} {before marked : List ℕ} {co
         ∙ ap (withRows X b (take total table)) (sym (rows-ahead (so-far .at-row) l))
         ∙ so-far .left
 
-    pub next-room : HasRoom total table marks (withRows X b (take total table) (rowAt image at ∷ []))
+    pub next-room : HasRoom total table slots links (withRows X b (take total table) (rowAt image at ∷ []))
     next-room =
         record {
           used = so-far .used;
-          narrow = omega (arith, so-far .narrow, so-far .same);
           room =
               omega (
                 arith,
@@ -214,25 +192,26 @@ module _ {image : List ℕ} {start end b X : ℕ} {before marked : List ℕ} {co
               );
         }
 
-    pub rows-go : (r : ℕ) (after marks-after : List ℕ) → Filled (withRows X b (take total table) (rowAt image at ∷ [])) r after marks-after
-        → length after ≡ length table → length marks-after ≡ length marks → RowsGathered image start end b X before marked count r (at + 9) after marks-after
-    rows-go r after marks-after filled same same-slots =
+    pub rows-go : (r : ℕ) (after slots-after links-after : List ℕ) → Filled (withRows X b (take total table) (rowAt image at ∷ [])) r after slots-after links-after
+        → length after ≡ length table → length slots-after ≡ length slots → length links-after ≡ length links
+        → RowsGathered image start end b X before slotted linked count r (at + 9) after slots-after links-after
+    rows-go r after slots-after links-after filled same same-slots same-links =
         record {
           at-row = one-further (so-far .at-row) l;
           used = first-filled filled;
           same = same ∙ so-far .same;
           same-slots = same-slots ∙ so-far .same-slots;
+          same-links = same-links ∙ so-far .same-links;
           room = so-far .room;
-          narrow = so-far .narrow;
           left = ap (λ (sets : List ℕ). withRows X b sets (rowsBetween image (at + 9) end)) (filled .gathered .stands) ∙ split;
         }
 
-  pub rows-end : end ≤ at → Filled (withRows X b (take count before) (rowsBetween image start end)) total table marks
+  pub rows-end : end ≤ at → Filled (withRows X b (take count before) (rowsBetween image start end)) total table slots links
   unfolding casesOutside keep column withCases
   rows-end l =
       let all : take total table ≡ withRows X b (take count before) (rowsBetween image start end) =
       ap (withRows X b (take total table)) (sym (none-ahead (so-far .at-row) l)) ∙ so-far .left in
-      subst (λ (sets : List ℕ). Filled sets total table marks) all (so-far .used)
+      subst (λ (sets : List ℕ). Filled sets total table slots links) all (so-far .used)
 
 -- the rows of a symbol, with its b
 module _ {image : List ℕ} {head : Head} (read : ReadAs image head) (table : List Blocker) (below X s P b : ℕ) (rows : List Row)
@@ -240,38 +219,37 @@ module _ {image : List ℕ} {head : Head} (read : ReadAs image head) (table : Li
   symbol-is : withRows X b sets rows ≡ withSymbol (systemOf image) (rowsOf image) table below X sets s
   symbol-is = rw (are, covers, taken, head-states read, head-initial read)
 
-  pub symbol-room : (count : ℕ) (places marks : List ℕ) → HasRoom count places marks (withSymbol (systemOf image) (rowsOf image) table below X sets s)
-      → HasRoom count places marks (withRows X b sets rows)
-  symbol-room count places marks room = rw symbol-is room
+  pub symbol-room : (count : ℕ) (places slots links : List ℕ) → HasRoom count places slots links (withSymbol (systemOf image) (rowsOf image) table below X sets s)
+      → HasRoom count places slots links (withRows X b sets rows)
+  symbol-room count places slots links room = rw symbol-is room
 
-  pub symbol-made : (r : ℕ) (after marks : List ℕ) → Filled (withRows X b sets rows) r after marks
-      → Filled (withSymbol (systemOf image) (rowsOf image) table below X sets s) r after marks
-  symbol-made r after marks filled = rw (← symbol-is) filled
+  pub symbol-made : (r : ℕ) (after slots links : List ℕ) → Filled (withRows X b sets rows) r after slots links
+      → Filled (withSymbol (systemOf image) (rowsOf image) table below X sets s) r after slots links
+  symbol-made r after slots links filled = rw (← symbol-is) filled
 
 -- all symbols, before symbol s: those ahead give what all give
-pub record SymbolsGathered (image : List ℕ) (table : List Blocker) (below X symbols : ℕ) (before marked : List ℕ) (s count : ℕ) (places marks : List ℕ) : Type 0 where
+pub record SymbolsGathered (image : List ℕ) (table : List Blocker) (below X symbols : ℕ) (before slotted linked : List ℕ) (s count : ℕ) (places slots links : List ℕ) : Type 0 where
   pub known : symbols ≡ symbolsOf image
   pub same : length places ≡ length before
-  pub same-slots : length marks ≡ length marked
-  pub used : Filled (take count places) count places marks
+  pub same-slots : length slots ≡ length slotted
+  pub same-links : length links ≡ length linked
+  pub used : Filled (take count places) count places slots links
   pub room : length (toMeet (systemOf image) (rowsOf image) table below X) ≤ length places
-  pub narrow : length places < 65536
   pub left : withCases X (take count places) (casesFrom (systemOf image) (rowsOf image) table below X (symbols - s) s)
       ≡ toMeet (systemOf image) (rowsOf image) table below X
 
 module _ {image : List ℕ} {head : Head} (read : ReadAs image head) (table : List Blocker) (below X left : ℕ) (is-left : left ≡ without (head .initial) X)
-    (places marks : List ℕ) (room : HasRoom 0 places marks (toMeet (systemOf image) (rowsOf image) table below X)) where
+    (places slots links : List ℕ) (room : HasRoom 0 places slots links (toMeet (systemOf image) (rowsOf image) table below X)) where
   -- the first set is that of I
   first-set : withCases X (withSet (take 0 places) left) (casesFrom (systemOf image) (rowsOf image) table below X (symbolsOf image) 0)
       ≡ toMeet (systemOf image) (rowsOf image) table below X
   unfolding toMeet forbidden withCases
   first-set = rw (is-left, head-initial read)
 
-  pub first-room : HasRoom 0 places marks (withSet (take 0 places) left)
+  pub first-room : HasRoom 0 places slots links (withSet (take 0 places) left)
   first-room =
       record {
         used = room .used;
-        narrow = room .narrow;
         room =
             omega (
               arith,
@@ -281,28 +259,31 @@ module _ {image : List ℕ} {head : Head} (read : ReadAs image head) (table : Li
             );
       }
 
-  pub symbols-start : (r : ℕ) (after marks-after : List ℕ) → Filled (withSet (take 0 places) left) r after marks-after → length after ≡ length places
-      → SymbolsGathered image table below X (head .symbols) after marks-after 0 r after marks-after
-  symbols-start r after marks-after filled same =
+  pub symbols-start : (r : ℕ) (after slots-after links-after : List ℕ) → Filled (withSet (take 0 places) left) r after slots-after links-after → length after ≡ length places
+      → SymbolsGathered image table below X (head .symbols) after slots-after links-after 0 r after slots-after links-after
+  symbols-start r after slots-after links-after filled same =
       record {
         known = head-symbols read;
         same = refl;
         same-slots = refl;
+        same-links = refl;
         used = first-filled filled;
         room = omega (arith, room .room, same);
-        narrow = omega (arith, room .narrow, same);
         left =
             ap (λ (sets : List ℕ). withCases X sets (casesFrom (systemOf image) (rowsOf image) table below X (head .symbols - 0) 0)) (filled .gathered .stands)
             ∙ rw (sub-zero (head .symbols), head-symbols read) first-set;
       }
 
-module _ {image : List ℕ} {table : List Blocker} {below X symbols s count : ℕ} {before marked places marks : List ℕ}
-    (so-far : SymbolsGathered image table below X symbols before marked s count places marks) where
+module _ {image : List ℕ} {table : List Blocker} {below X symbols s count : ℕ} {before slotted linked places slots links : List ℕ}
+    (so-far : SymbolsGathered image table below X symbols before slotted linked s count places slots links) where
   pub symbols-long : (entry : List ℕ) → length before ≡ length entry → length places ≡ length entry
   symbols-long entry e = so-far .same ∙ e
 
-  pub slots-long : (entry : List ℕ) → length marked ≡ length entry → length marks ≡ length entry
+  pub slots-long : (entry : List ℕ) → length slotted ≡ length entry → length slots ≡ length entry
   slots-long entry e = so-far .same-slots ∙ e
+
+  pub links-long : (entry : List ℕ) → length linked ≡ length entry → length links ≡ length entry
+  links-long entry e = so-far .same-links ∙ e
 
   pub symbol-known : s < symbols → s < symbolsOf image
   symbol-known l = omega (arith, so-far .known)
@@ -316,11 +297,10 @@ module _ {image : List ℕ} {table : List Blocker} {below X symbols s count : �
         let c : symbols - s ≡ suc (symbols - suc s) = omega arith in
         sym (with-cases-joined X (take count places) _ _) ∙ rw add-one (rw c at (so-far .left))
 
-    pub symbols-room : HasRoom count places marks (withSymbol (systemOf image) (rowsOf image) table below X (take count places) s)
+    pub symbols-room : HasRoom count places slots links (withSymbol (systemOf image) (rowsOf image) table below X (take count places) s)
     symbols-room =
         record {
           used = so-far .used;
-          narrow = so-far .narrow;
           room =
               omega (
                 arith,
@@ -331,17 +311,18 @@ module _ {image : List ℕ} {table : List Blocker} {below X symbols s count : �
               );
         }
 
-    pub symbols-go : (r : ℕ) (after marks-after : List ℕ)
-        → Filled (withSymbol (systemOf image) (rowsOf image) table below X (take count places) s) r after marks-after → length after ≡ length places
-        → length marks-after ≡ length marks → SymbolsGathered image table below X symbols before marked (s + 1) r after marks-after
-    symbols-go r after marks-after filled same same-slots =
+    pub symbols-go : (r : ℕ) (after slots-after links-after : List ℕ)
+        → Filled (withSymbol (systemOf image) (rowsOf image) table below X (take count places) s) r after slots-after links-after → length after ≡ length places
+        → length slots-after ≡ length slots → length links-after ≡ length links
+        → SymbolsGathered image table below X symbols before slotted linked (s + 1) r after slots-after links-after
+    symbols-go r after slots-after links-after filled same same-slots same-links =
         record {
           known = so-far .known;
           same = same ∙ so-far .same;
           same-slots = same-slots ∙ so-far .same-slots;
+          same-links = same-links ∙ so-far .same-links;
           used = first-filled filled;
           room = omega (arith, so-far .room, same);
-          narrow = omega (arith, so-far .narrow, same);
           left =
               ap (λ (sets : List ℕ). withCases X sets (casesFrom (systemOf image) (rowsOf image) table below X (symbols - (s + 1)) (s + 1))) (filled .gathered .stands)
               ∙ split-symbols;

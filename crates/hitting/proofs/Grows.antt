@@ -1,11 +1,10 @@
 -- The whole growth: the table has room for the sets, they are few enough to count, and what is not picked is the set that X grows to. Assumes nothing.
-use Prim.Native.Nat.{ℕ, zero, suc, _≤_, _<_}
+use Prim.Native.Nat.{ℕ, _≤_, _<_}
 use mathlib.Core.Path.{_≡_, refl, ap, _∙_}
 use mathlib.Core.List.{List}
 use native.Mathlib.Omega.{arith}
-use lib.ListN.{length, getD, take, replicate}
+use lib.ListN.{length, take, replicate}
 use lib.Seq.{length-take-le}
-use Rattle.lists.proofs.Lists.{in-none}
 use Rattle.masks.specs.Sets.{without, full}
 use Rattle.automata.specs.Image.{rowCountOf, rowsOf}
 use Rattle.automata.specs.Answers.{ReadAs}
@@ -16,13 +15,8 @@ use Rattle.machine.specs.Machine.{Blocker}
 use Rattle.machine.specs.Runs.{systemOf}
 use Rattle.machine.specs.Hitting.{toMeet, picked, byHittingSet}
 use Rattle.hitting.specs.Sets.{Gathered, HasRoom}
+use Rattle.hitting.proofs.Linking.{none-chained}
 use Rattle.hitting.proofs.Few.{few-sets}
-
--- an empty slot
-zero-at : (slots slot : ℕ) → getD (replicate {A = ℕ} slots 0) slot 0 ≡ 0
-zero-at zero slot = refl
-zero-at (suc slots) zero = refl
-zero-at (suc slots) (suc slot) = zero-at slots slot
 
 module _ {image : List ℕ} {head : Head} (read : ReadAs image head) where
   -- what the test of the head says of the rows, and that there are at most 4,096
@@ -33,17 +27,16 @@ module _ {image : List ℕ} {head : Head} (read : ReadAs image head) where
   all-rows = omega (arith, valid-kept image (read .valid) .few-rows)
 
   module _ (table : List Blocker) (below X : ℕ) (places : List ℕ) where
-    pub room-enough : (marks : List ℕ) → rowCountOf image < length places → length places < 65536 → 1 ≤ length marks → marks ≡ replicate (length marks) 0
-        → HasRoom 0 places marks (toMeet (systemOf image) (rowsOf image) table below X)
-    room-enough marks l narrow some none =
+    pub room-enough : (slots links : List ℕ) → rowCountOf image < length places → length places < 65536 → length places ≤ length links → 1 ≤ length slots
+        → slots ≡ replicate (length slots) 0 → HasRoom 0 places slots links (toMeet (systemOf image) (rowsOf image) table below X)
+    room-enough slots links l narrow linked some none =
         record {
           used = record {
             gathered = record { stands = refl; fits = omega arith };
-            some-slot = some;
-            all-marked = λ one m. absurd (in-none m);
-            in-use = λ slot. omega (arith, ap (λ (table : List ℕ). getD table slot 0) none, zero-at (length marks) slot);
+            chained = none-chained slots links some none;
+            links-fit = linked;
+            narrow = narrow;
           };
-          narrow = narrow;
           room = omega (arith, few-sets image (read .valid) table below X);
         }
 

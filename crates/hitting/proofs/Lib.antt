@@ -1,7 +1,7 @@
 -- Laws of growing through a hitting set.
 pub mod Table
 pub mod Covering
-pub mod Marking
+pub mod Linking
 pub mod Gathers
 pub mod Planes
 pub mod Picks

@@ -4,31 +4,30 @@ use mathlib.Core.Path.{_≡_}
 use mathlib.Core.List.{List, [], _∷_}
 use lib.Bits.{bitAnd, bitXor}
 use lib.Dec.{eqb}
-use lib.ListN.{length, getD, take}
+use lib.ListN.{length, take}
 use Rattle.lists.specs.Tests.{choose}
 use Rattle.automata.specs.Image.{Row}
 use Rattle.machine.specs.System.{System}
 use Rattle.machine.specs.Machine.{Blocker}
 use Rattle.machine.specs.Hitting.{RowSource, cover, casesOutside, withCases, best}
-use Rattle.hitting.specs.Marked.{AllMarked}
+use Rattle.hitting.specs.Chained.{Chained}
 
 -- the first `count` places of the table hold the sets
 pub record Gathered (sets : List ℕ) (count : ℕ) (table : List ℕ) : Type 0 where
   pub stands : take count table ≡ sets
   pub fits : count ≤ length table
 
--- and each of them is marked, by 1 and a place that is in use
-pub record Filled (sets : List ℕ) (count : ℕ) (table marks : List ℕ) : Type 0 where
+-- and slots and links are theirs, with a link for each place of the table; places are told in 16 bits
+pub record Filled (sets : List ℕ) (count : ℕ) (table slots links : List ℕ) : Type 0 where
   pub gathered : Gathered sets count table
-  pub some-slot : 1 ≤ length marks
-  pub all-marked : AllMarked marks sets
-  pub in-use : (slot : ℕ) → getD marks slot 0 ≤ count
-
--- the sets in the first places are marked, and the table has room for these; its places are numbers of 16 bits
-pub record HasRoom (count : ℕ) (table marks sets : List ℕ) : Type 0 where
-  pub used : Filled (take count table) count table marks
-  pub room : length sets ≤ length table
+  pub chained : Chained sets slots links
+  pub links-fit : length table ≤ length links
   pub narrow : length table < 65536
+
+-- the first places are filled so, and the table has room for these sets
+pub record HasRoom (count : ℕ) (table slots links sets : List ℕ) : Type 0 where
+  pub used : Filled (take count table) count table slots links
+  pub room : length sets ≤ length table
 
 -- the sets, with what is left of the cases of these rows whose state is outside b
 abbrev pub withRows : ℕ → ℕ → List ℕ → List Row → List ℕ

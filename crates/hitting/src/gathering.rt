@@ -1,7 +1,8 @@
 // The sets that are to be met: what is left of I, and of the case of each row whose state is outside b, once the states of x are taken away. Each stands once,
 // and none is empty. The table has room for all of them.
-use crate::marks::mark;
-use crate::marks::mark_of;
+use crate::chains::before;
+use crate::chains::last_of;
+use crate::chains::link;
 use automata::backward::backward;
 use automata::image::Head;
 use automata::image::Symbol;
@@ -14,7 +15,7 @@ ghost use mathlib.Core.Path.{_≡_};
 ghost use mathlib.Core.List.{[], _∷_};
 ghost use Prim.Native.Nat.{_≤_, _<_};
 ghost use lib.Dec.{eqb};
-ghost use lib.ListN.{length, take};
+ghost use lib.ListN.{take};
 ghost use Rattle.lists.specs.Lists.{any};
 ghost use Rattle.automata.specs.Image.{symbolsOf, rowAt, rowsOf};
 ghost use Rattle.automata.specs.Walk.{RowsStand, Span, rowsBetween};
@@ -24,49 +25,34 @@ ghost use Rattle.machine.specs.Runs.{systemOf};
 ghost use Rattle.machine.specs.Hitting.{cover as coverSet, withSet, toMeet};
 ghost use Rattle.hitting.specs.Sets.{Gathered, Filled, HasRoom, withRows, withSymbol};
 
-// Whether the set is one of the first `count`.
-fn among(sets: &[u64], count: usize, set: u64) -> bool
-    requires { ⌜ count ≤ length (now sets) ⌝ }
+// Whether the set is one of the first `count`: it is looked for along the chain of its slot.
+fn is_there(sets: &[u64], slots: &[u16], links: &[u16], count: usize, set: u64) -> bool
+    requires { ⌜ Filled (take count (now sets)) count (now sets) (now slots) (now links) ⌝ }
     ensures { λ r. ⌜ r ≡ any (eqb set) (take count (now (sets .entry))) ⌝ }
 {
-    let mut i: usize = 0;
-    while i < count {
-        if set == sets[i] {
+    let mut number = last_of(slots, set);
+    while number != 0 {
+        if sets[number - 1] == set {
             return true;
         }
-        i += 1;
+        number = before(links, number - 1);
     }
     false
 }
 
-// The same, where the first `count` are marked: an unmarked set is none of them, and most others stand where their mark says.
-fn is_there(sets: &[u64], marks: &[u16], count: usize, set: u64) -> bool
-    requires { ⌜ Filled (take count (now sets)) count (now sets) (now marks) ⌝ }
-    ensures { λ r. ⌜ r ≡ any (eqb set) (take count (now (sets .entry))) ⌝ }
-{
-    let number = mark_of(marks, set);
-    if number == 0 {
-        return false;
-    }
-    if sets[number - 1] == set {
-        return true;
-    }
-    among(sets, count, set)
-}
-
 // The set enters behind the first `count` unless it is empty or one of them; answers how many there are then.
-fn with_set(sets: &mut [u64], marks: &mut [u16], count: usize, set: u64) -> usize
-    requires { ⌜ HasRoom count (now sets) (now marks) (withSet (take count (now sets)) set) ⌝ }
-    ensures { λ r. ⌜ Filled (withSet (take count (now (sets .entry))) set) r (now (sets .exit)) (now (marks .exit)) ⌝ }
+fn with_set(sets: &mut [u64], slots: &mut [u16], links: &mut [u16], count: usize, set: u64) -> usize
+    requires { ⌜ HasRoom count (now sets) (now slots) (now links) (withSet (take count (now sets)) set) ⌝ }
+    ensures { λ r. ⌜ Filled (withSet (take count (now (sets .entry))) set) r (now (sets .exit)) (now (slots .exit)) (now (links .exit)) ⌝ }
 {
     if set == 0 {
         return count;
     }
-    if is_there(sets, marks, count, set) {
+    if is_there(sets, slots, links, count, set) {
         return count;
     }
     sets[count] = set;
-    mark(marks, set, count + 1);
+    link(slots, links, set, count);
     count + 1
 }
 
@@ -77,17 +63,18 @@ fn with_row(
     b: u64,
     x: u64,
     sets: &mut [u64],
-    marks: &mut [u16],
+    slots: &mut [u16],
+    links: &mut [u16],
     count: usize,
 ) -> usize
-    requires { ⌜ RowsStand (now image) 1 at × HasRoom count (now sets) (now marks) (withRows x b (take count (now sets)) (rowAt (now image) at ∷ [])) ⌝ }
-    ensures { λ r. ⌜ Filled (withRows x b (take count (now (sets .entry))) (rowAt (now (image .entry)) at ∷ [])) r (now (sets .exit)) (now (marks .exit)) ⌝ }
+    requires { ⌜ RowsStand (now image) 1 at × HasRoom count (now sets) (now slots) (now links) (withRows x b (take count (now sets)) (rowAt (now image) at ∷ [])) ⌝ }
+    ensures { λ r. ⌜ Filled (withRows x b (take count (now (sets .entry))) (rowAt (now (image .entry)) at ∷ [])) r (now (sets .exit)) (now (slots .exit)) (now (links .exit)) ⌝ }
 {
     let row = row_at(image, at);
     if masks::member(row.state, b) {
         return count;
     }
-    with_set(sets, marks, count, masks::without(row.case, x))
+    with_set(sets, slots, links, count, masks::without(row.case, x))
 }
 
 // The same for the rows from start to end.
@@ -98,16 +85,17 @@ fn with_rows(
     b: u64,
     x: u64,
     sets: &mut [u64],
-    marks: &mut [u16],
+    slots: &mut [u16],
+    links: &mut [u16],
     count: usize,
 ) -> usize
-    requires { ⌜ Span (now image) start end × HasRoom count (now sets) (now marks) (withRows x b (take count (now sets)) (rowsBetween (now image) start end)) ⌝ }
-    ensures { λ r. ⌜ Filled (withRows x b (take count (now (sets .entry))) (rowsBetween (now (image .entry)) start end)) r (now (sets .exit)) (now (marks .exit)) ⌝ }
+    requires { ⌜ Span (now image) start end × HasRoom count (now sets) (now slots) (now links) (withRows x b (take count (now sets)) (rowsBetween (now image) start end)) ⌝ }
+    ensures { λ r. ⌜ Filled (withRows x b (take count (now (sets .entry))) (rowsBetween (now (image .entry)) start end)) r (now (sets .exit)) (now (slots .exit)) (now (links .exit)) ⌝ }
 {
     let mut total = count;
     let mut at = start;
     while at < end {
-        total = with_row(image, at, b, x, sets, marks, total);
+        total = with_row(image, at, b, x, sets, slots, links, total);
         at += 9;
     }
     total
@@ -138,18 +126,19 @@ fn with_symbol(
     x: u64,
     symbol: Symbol,
     sets: &mut [u64],
-    marks: &mut [u16],
+    slots: &mut [u16],
+    links: &mut [u16],
     count: usize,
 ) -> usize
     requires { ⌜ ReadAs (now image) head × (symbol .0 < symbolsOf (now image))
-        × HasRoom count (now sets) (now marks) (withSymbol (systemOf (now image)) (rowsOf (now image)) (blockersIn (now masks) (now levels)) (below .0) x (take count (now sets)) (symbol .0)) ⌝ }
+        × HasRoom count (now sets) (now slots) (now links) (withSymbol (systemOf (now image)) (rowsOf (now image)) (blockersIn (now masks) (now levels)) (below .0) x (take count (now sets)) (symbol .0)) ⌝ }
     ensures { λ r. ⌜ Filled (withSymbol (systemOf (now (image .entry))) (rowsOf (now (image .entry)))
-        (blockersIn (now (masks .entry)) (now (levels .entry))) (below .0) x (take count (now (sets .entry))) (symbol .0)) r (now (sets .exit)) (now (marks .exit)) ⌝ }
+        (blockersIn (now (masks .entry)) (now (levels .entry))) (below .0) x (take count (now (sets .entry))) (symbol .0)) r (now (sets .exit)) (now (slots .exit)) (now (links .exit)) ⌝ }
 {
     let p = backward(image, symbol, x).set;
     let b = cover(head, masks, levels, below, x, p);
     let rows = rows_of(image, symbol);
-    with_rows(image, rows.start, rows.end, b, x, sets, marks, count)
+    with_rows(image, rows.start, rows.end, b, x, sets, slots, links, count)
 }
 
 // The sets that are to be met where x grows one level above `below`; answers how many they are.
@@ -161,14 +150,15 @@ pub(crate) fn gather(
     below: Level,
     x: u64,
     sets: &mut [u64],
-    marks: &mut [u16],
+    slots: &mut [u16],
+    links: &mut [u16],
 ) -> usize
     requires { ⌜ ReadAs (now image) head
-        × HasRoom 0 (now sets) (now marks) (toMeet (systemOf (now image)) (rowsOf (now image)) (blockersIn (now masks) (now levels)) (below .0) x) ⌝ }
+        × HasRoom 0 (now sets) (now slots) (now links) (toMeet (systemOf (now image)) (rowsOf (now image)) (blockersIn (now masks) (now levels)) (below .0) x) ⌝ }
     ensures { λ r. ⌜ Gathered (toMeet (systemOf (now (image .entry))) (rowsOf (now (image .entry)))
         (blockersIn (now (masks .entry)) (now (levels .entry))) (below .0) x) r (now (sets .exit)) ⌝ }
 {
-    let mut count = with_set(sets, marks, 0, masks::without(head.initial, x));
+    let mut count = with_set(sets, slots, links, 0, masks::without(head.initial, x));
     let mut symbol = Symbol(0);
     while symbol.0 < head.symbols {
         count = with_symbol(
@@ -180,7 +170,8 @@ pub(crate) fn gather(
             x,
             symbol,
             sets,
-            marks,
+            slots,
+            links,
             count,
         );
         symbol = Symbol(symbol.0 + 1);

@@ -2,8 +2,8 @@
 use automata::image::Head;
 use blockers::Level;
 
+mod chains; // chains.rt: the sets by slots and links
 mod gathering; // gathering.rt: the sets that are to be met, each once
-mod marks; // marks.rt: where a set stands, if it came before
 mod picking; // picking.rt: the states that meet them all
 
 ghost use mathlib.Core.Path.{_≡_};
@@ -24,14 +24,15 @@ fn grow_in(
     below: Level,
     x: u64,
     sets: &mut [u64],
-    marks: &mut [u16],
+    slots: &mut [u16],
+    links: &mut [u16],
 ) -> u64
     requires { ⌜ ReadAs (now image) head × (rowCountOf (now image) < length (now sets)) × (length (now sets) < 65536)
-        × (1 ≤ length (now marks)) × (now marks ≡ replicate (length (now marks)) 0) ⌝ }
+        × (length (now sets) ≤ length (now links)) × (1 ≤ length (now slots)) × (now slots ≡ replicate (length (now slots)) 0) ⌝ }
     ensures { λ r. ⌜ r ≡ byHittingSet (systemOf (now (image .entry))) (rowsOf (now (image .entry)))
         (blockersIn (now (masks .entry)) (now (levels .entry))) (below .0) x ⌝ }
 {
-    let count = gathering::gather(image, head, masks, levels, below, x, sets, marks);
+    let count = gathering::gather(image, head, masks, levels, below, x, sets, slots, links);
     let picked = picking::pick(head.states, sets, count);
     masks::without(masks::full(head.states), picked)
 }
@@ -43,8 +44,19 @@ fn grow_short(image: &[u8], head: Head, masks: &[u64], levels: &[u32], below: Le
         (blockersIn (now (masks .entry)) (now (levels .entry))) (below .0) x ⌝ }
 {
     let mut sets = [0u64; 512];
-    let mut marks = [0u16; 1024];
-    grow_in(image, head, masks, levels, below, x, &mut sets, &mut marks)
+    let mut slots = [0u16; 512];
+    let mut links = [0u16; 512];
+    grow_in(
+        image,
+        head,
+        masks,
+        levels,
+        below,
+        x,
+        &mut sets,
+        &mut slots,
+        &mut links,
+    )
 }
 
 // The same for every image.
@@ -54,8 +66,19 @@ fn grow_long(image: &[u8], head: Head, masks: &[u64], levels: &[u32], below: Lev
         (blockersIn (now (masks .entry)) (now (levels .entry))) (below .0) x ⌝ }
 {
     let mut sets = [0u64; 4097];
-    let mut marks = [0u16; 32768];
-    grow_in(image, head, masks, levels, below, x, &mut sets, &mut marks)
+    let mut slots = [0u16; 4096];
+    let mut links = [0u16; 4097];
+    grow_in(
+        image,
+        head,
+        masks,
+        levels,
+        below,
+        x,
+        &mut sets,
+        &mut slots,
+        &mut links,
+    )
 }
 
 // The set that x grows to, as what blocks it one level above `below`: the states that are not picked.

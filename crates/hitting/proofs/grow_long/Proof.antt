@@ -12,6 +12,9 @@ slice-aggregate-grow-in c = search needs
 slice-aggregate-grow-in-2 : tie.Need-slice-aggregate-grow-in-2
 slice-aggregate-grow-in-2 c = search needs
 
+slice-aggregate-grow-in-3 : tie.Need-slice-aggregate-grow-in-3
+slice-aggregate-grow-in-3 c = search needs
+
 grow-in-requires : tie.Need-grow-in-requires
 grow-in-requires c κs = search (all-rows, needs)
 
@@ -24,5 +27,6 @@ grow-long-spec =
     (tie.spec
     slice-aggregate-grow-in
     slice-aggregate-grow-in-2
+    slice-aggregate-grow-in-3
     grow-in-requires
     returns)

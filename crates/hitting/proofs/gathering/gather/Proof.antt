@@ -1,6 +1,6 @@
 use Prim.Native.Nat.{_-_}
 use Rattle.machine.specs.Lent.{blockersIn}
-use Rattle.hitting.proofs.Gathers.{SymbolsGathered, first-room, symbols-start, symbol-known, symbols-room, symbols-go, symbols-long, slots-long, symbols-end}
+use Rattle.hitting.proofs.Gathers.{SymbolsGathered, first-room, symbols-start, symbol-known, symbols-room, symbols-go, symbols-long, slots-long, links-long, symbols-end}
 use borrow.Author.Needs.{needs}
 use Rattle.hitting.proofs.gathering.gather.Statement.{statement}
 use Rattle.hitting.proofs.gathering.gather.Tie as tie
@@ -11,10 +11,10 @@ use Rattle.hitting.proofs.gathering.with_symbol.Reads as with-symbol-re
 use Rattle.masks.proofs.without.Reads as without-reads
 
 abbrev Inv-loop : tie.InvT-loop
-Inv-loop image head masks levels below x sets₀ marks₀ count₀ symbol₀ sets marks count symbol = SymbolsGathered image (blockersIn masks levels) (below .0) x (head .symbols) sets₀ marks₀ (symbol .0) count sets marks
+Inv-loop image head masks levels below x sets₀ slots₀ links₀ count₀ symbol₀ sets slots links count symbol = SymbolsGathered image (blockersIn masks levels) (below .0) x (head .symbols) sets₀ slots₀ links₀ (symbol .0) count sets slots links
 
 abbrev μ-loop : tie.MeasureT-loop
-μ-loop image head masks levels below x sets₀ marks₀ count₀ symbol₀ sets marks count symbol = head .symbols - symbol .0
+μ-loop image head masks levels below x sets₀ slots₀ links₀ count₀ symbol₀ sets slots links count symbol = head .symbols - symbol .0
 
 without-requires : tie.Need-without-requires Inv-loop μ-loop
 without-requires c κs = search needs
@@ -27,12 +27,12 @@ loop-holds c = search (symbols-start, needs)
 
 with-symbol-requires : tie.Need-with-symbol-requires Inv-loop μ-loop
 with-symbol-requires c κs =
-    let so-far = c .before .before .before .before .before .loop .inv in
-    let l = c .before .before .if1 .taken in
+    let so-far = c .before .before .before .before .before .before .loop .inv in
+    let l = c .before .before .before .if1 .taken in
     search (symbol-known so-far l, symbols-room so-far l, needs)
 
-add-t21 : tie.Need-add-t21 Inv-loop μ-loop
-add-t21 c = search needs
+add-t26 : tie.Need-add-t26 Inv-loop μ-loop
+add-t26 c = search needs
 
 loop-less : tie.Need-loop-less Inv-loop μ-loop
 loop-less c = search needs
@@ -45,6 +45,9 @@ same-length c = search (symbols-long, needs)
 
 same-length-2 : tie.Need-same-length-2 Inv-loop μ-loop
 same-length-2 c = search (slots-long, needs)
+
+same-length-3 : tie.Need-same-length-3 Inv-loop μ-loop
+same-length-3 c = search (links-long, needs)
 
 returns : tie.Need-returns Inv-loop μ-loop
 returns c = search (symbols-end, needs)
@@ -59,9 +62,10 @@ gather-spec =
     with-set-requires
     loop-holds
     with-symbol-requires
-    add-t21
+    add-t26
     loop-less
     loop-again
     same-length
     same-length-2
+    same-length-3
     returns)

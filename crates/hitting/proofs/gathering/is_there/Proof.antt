@@ -1,45 +1,67 @@
-use Rattle.hitting.proofs.Gathers.{not-there, marked-place, there}
+use Rattle.hitting.proofs.Linking.{Looking, looking-starts, looking-ends}
+use Rattle.hitting.proofs.Gathers.{place-in, link-in, is-found, look-nearer, look-on}
+use lib.ListN.{take}
 use borrow.Author.Needs.{needs}
 use Rattle.hitting.proofs.gathering.is_there.Statement.{statement}
 use Rattle.hitting.proofs.gathering.is_there.Tie as tie
 use Rattle.hitting.proofs.gathering.is_there.Reads as reads
 use Rattle.hitting.proofs.gathering.is_there.Lts as lts
-use Rattle.hitting.proofs.gathering.among.Reads as among-reads
-use Rattle.hitting.proofs.marks.mark_of.Reads as mark-of-reads
+use Rattle.hitting.proofs.chains.before.Reads as before-reads
+use Rattle.hitting.proofs.chains.last_of.Reads as last-of-reads
 
-mark-of-requires : tie.Need-mark-of-requires
-mark-of-requires c κs = search needs
+abbrev Inv-loop : tie.InvT-loop
+Inv-loop sets slots links count set number₀ number = Looking (take count sets) slots links set number
 
-returns : tie.Need-returns
-returns c = search (not-there, needs)
+abbrev μ-loop : tie.MeasureT-loop
+μ-loop sets slots links count set number₀ number = number
 
-sub-if2 : tie.Need-sub-if2
-sub-if2 c = search needs
+last-of-requires : tie.Need-last-of-requires Inv-loop μ-loop
+last-of-requires c κs = search needs
 
-mul-if2 : tie.Need-mul-if2
-mul-if2 c = search (marked-place, needs)
+loop-holds : tie.Need-loop-holds Inv-loop μ-loop
+loop-holds c = search (looking-starts, needs)
 
-shared-slice-read-if2 : tie.Need-shared-slice-read-if2
-shared-slice-read-if2 c = search (marked-place, needs)
+sub-if1 : tie.Need-sub-if1 Inv-loop μ-loop
+sub-if1 c = search needs
 
-returns-2 : tie.Need-returns-2
-returns-2 c = search (there, needs)
+mul-if1 : tie.Need-mul-if1 Inv-loop μ-loop
+mul-if1 c = search (place-in, needs)
 
-among-requires : tie.Need-among-requires
-among-requires c κs = search needs
+shared-slice-read-if1 : tie.Need-shared-slice-read-if1 Inv-loop μ-loop
+shared-slice-read-if1 c = search (place-in, needs)
 
-returns-3 : tie.Need-returns-3
-returns-3 c = search needs
+returns : tie.Need-returns Inv-loop μ-loop
+returns c = search (is-found, needs)
+
+sub-before : tie.Need-sub-before Inv-loop μ-loop
+sub-before c = search needs
+
+before-requires : tie.Need-before-requires Inv-loop μ-loop
+before-requires c κs = search (link-in, needs)
+
+loop-less : tie.Need-loop-less Inv-loop μ-loop
+loop-less c = search (look-nearer, needs)
+
+loop-again : tie.Need-loop-again Inv-loop μ-loop
+loop-again c = search (look-on, needs)
+
+returns-2 : tie.Need-returns-2 Inv-loop μ-loop
+returns-2 c = search (looking-ends, needs)
 
 pub is-there-spec : {M : Type 1} → statement M
 is-there-spec =
     tie.close
     (tie.spec
-    mark-of-requires
+    Inv-loop
+    μ-loop
+    last-of-requires
+    loop-holds
+    sub-if1
+    mul-if1
+    shared-slice-read-if1
     returns
-    sub-if2
-    mul-if2
-    shared-slice-read-if2
-    returns-2
-    among-requires
-    returns-3)
+    sub-before
+    before-requires
+    loop-less
+    loop-again
+    returns-2)

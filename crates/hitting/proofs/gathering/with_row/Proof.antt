@@ -30,6 +30,9 @@ same-length c = search needs
 same-length-2 : tie.Need-same-length-2
 same-length-2 c = search needs
 
+same-length-3 : tie.Need-same-length-3
+same-length-3 c = search needs
+
 returns-2 : tie.Need-returns-2
 returns-2 c = search (row-outside, needs)
 
@@ -44,4 +47,5 @@ with-row-spec =
     with-set-requires
     same-length
     same-length-2
+    same-length-3
     returns-2)

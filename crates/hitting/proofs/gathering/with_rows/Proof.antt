@@ -8,10 +8,10 @@ use Rattle.hitting.proofs.gathering.with_rows.Lts as lts
 use Rattle.hitting.proofs.gathering.with_row.Reads as with-row-reads
 
 abbrev Inv-loop : tie.InvT-loop
-Inv-loop image start end b x sets₀ marks₀ count total₀ at₀ sets marks total at = RowsGathered image start end b x sets₀ marks₀ count total at sets marks
+Inv-loop image start end b x sets₀ slots₀ links₀ count total₀ at₀ sets slots links total at = RowsGathered image start end b x sets₀ slots₀ links₀ count total at sets slots links
 
 abbrev μ-loop : tie.MeasureT-loop
-μ-loop image start end b x sets₀ marks₀ count total₀ at₀ sets marks total at = end - at
+μ-loop image start end b x sets₀ slots₀ links₀ count total₀ at₀ sets slots links total at = end - at
 
 loop-holds : tie.Need-loop-holds Inv-loop μ-loop
 loop-holds c = search (rows-start, needs)
@@ -34,6 +34,9 @@ same-length c = search needs
 same-length-2 : tie.Need-same-length-2 Inv-loop μ-loop
 same-length-2 c = search needs
 
+same-length-3 : tie.Need-same-length-3 Inv-loop μ-loop
+same-length-3 c = search needs
+
 returns : tie.Need-returns Inv-loop μ-loop
 returns c = search (rows-end, needs)
 
@@ -50,4 +53,5 @@ with-rows-spec =
     loop-again
     same-length
     same-length-2
+    same-length-3
     returns)

@@ -28,6 +28,9 @@ same-length c = search needs
 same-length-2 : tie.Need-same-length-2
 same-length-2 c = search needs
 
+same-length-3 : tie.Need-same-length-3
+same-length-3 c = search needs
+
 returns : tie.Need-returns
 returns c = search (symbol-made, needs)
 
@@ -41,4 +44,5 @@ with-symbol-spec =
     with-rows-requires
     same-length
     same-length-2
+    same-length-3
     returns)

@@ -1,10 +1,10 @@
-use Rattle.hitting.specs.Marked.{mixed}
-use Rattle.hitting.proofs.Marking.{low-fits, sum-fits}
+use Rattle.hitting.specs.Chained.{mixed}
+use Rattle.hitting.proofs.Linking.{low-fits, sum-fits}
 use borrow.Author.Needs.{needs}
-use Rattle.hitting.proofs.marks.mix.Statement.{statement}
-use Rattle.hitting.proofs.marks.mix.Tie as tie
-use Rattle.hitting.proofs.marks.mix.Reads as reads
-use Rattle.hitting.proofs.marks.mix.Lts as lts
+use Rattle.hitting.proofs.chains.mix.Statement.{statement}
+use Rattle.hitting.proofs.chains.mix.Tie as tie
+use Rattle.hitting.proofs.chains.mix.Reads as reads
+use Rattle.hitting.proofs.chains.mix.Lts as lts
 
 mul-result : tie.Need-mul-result
 mul-result c = search (low-fits, needs)

@@ -1,10 +1,10 @@
-use Rattle.hitting.proofs.Marking.{slot-made}
+use Rattle.hitting.proofs.Linking.{slot-made}
 use borrow.Author.Needs.{needs}
-use Rattle.hitting.proofs.marks.slot_of.Statement.{statement}
-use Rattle.hitting.proofs.marks.slot_of.Tie as tie
-use Rattle.hitting.proofs.marks.slot_of.Reads as reads
-use Rattle.hitting.proofs.marks.slot_of.Lts as lts
-use Rattle.hitting.proofs.marks.mix.Reads as mix-reads
+use Rattle.hitting.proofs.chains.slot_of.Statement.{statement}
+use Rattle.hitting.proofs.chains.slot_of.Tie as tie
+use Rattle.hitting.proofs.chains.slot_of.Reads as reads
+use Rattle.hitting.proofs.chains.slot_of.Lts as lts
+use Rattle.hitting.proofs.chains.mix.Reads as mix-reads
 
 mix-requires : tie.Need-mix-requires
 mix-requires c κs = search needs
