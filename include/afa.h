@@ -11,7 +11,7 @@
    - Tables must not overlap: what a function may write (head, room, length,
      masks, levels, entered, cases, symbols, counts, found; afa_why writes found
      alone) shares no byte with anything else that it is lent in the same call.
-   afa_print_run takes some 520 KB of stack, afa_run some 100 KB, the others
+   afa_print_run takes some 520 KB of stack, afa_run some 50 KB, the others
    little. */
 #ifndef AFA_H
 #define AFA_H
