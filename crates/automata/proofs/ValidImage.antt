@@ -39,10 +39,10 @@ pub record RowKept (states : ℕ) (row : Row) : Type 0 where
   pub case-within : T (within states (row .case))
 
 -- a check that did not apply
-passed : (b : Bool) (number later : ℕ) → check b (suc number) later ≡ 0 → (T b → ⊥) × (later ≡ 0)
+pub check-fails : (b : Bool) (number later : ℕ) → check b (suc number) later ≡ 0 → (T b → ⊥) × (later ≡ 0)
 unfolding check
-passed true number later e = absurd (omega arith)
-passed false number later e = (λ t. t, e)
+check-fails true number later e = absurd (omega arith)
+check-fails false number later e = (λ t. t, e)
 
 inside : (number : ℕ) → (T (outside number) → ⊥) → (1 ≤ number) × (number ≤ 64)
 unfolding outside
@@ -53,14 +53,14 @@ inside number f =
 pub valid-kept : (image : List ℕ) → Valid image → Kept image
 unfolding checkImage
 valid-kept image valid =
-    let p20 = passed _ _ _ valid in
-    let p21 = passed _ _ _ (p20 .1) in
-    let p22 = passed _ _ _ (p21 .1) in
-    let p23 = passed _ _ _ (p22 .1) in
-    let p24 = passed _ _ _ (p23 .1) in
-    let p25 = passed _ _ _ (p24 .1) in
-    let p26 = passed _ _ _ (p25 .1) in
-    let p27 = passed _ _ _ (p26 .1) in
+    let p20 = check-fails _ _ _ valid in
+    let p21 = check-fails _ _ _ (p20 .1) in
+    let p22 = check-fails _ _ _ (p21 .1) in
+    let p23 = check-fails _ _ _ (p22 .1) in
+    let p24 = check-fails _ _ _ (p23 .1) in
+    let p25 = check-fails _ _ _ (p24 .1) in
+    let p26 = check-fails _ _ _ (p25 .1) in
+    let p27 = check-fails _ _ _ (p26 .1) in
     record {
       long = ltb-false _ _ (is-false _ (p20 .0));
       some-state = inside _ (p21 .0) .0;

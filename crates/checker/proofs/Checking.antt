@@ -13,13 +13,13 @@ use Rattle.automata.specs.Answers.{ReadAs, readWith, readImage}
 use Rattle.automata.specs.declared.image.Head.{Head}
 use Rattle.automata.specs.declared.image.Image.{Image}
 use Rattle.automata.specs.declared.image.Image.the-variants as Answer
+use Rattle.automata.proofs.ValidImage.{check-fails}
 use Rattle.automata.proofs.WordTests.{answer-valid, answer-head}
 use Rattle.machine.specs.Machine.{Blocker, Next, comesTo}
 use Rattle.machine.specs.Lent.{BlockerRoom, EvenRoom, roomOf, column, placed, eachTable, withTable}
 use Rattle.machine.specs.Runs.{Terms, Result, roomsOf, refused, casesIn, symbolsIn, tablesAfter, resultOf}
 use Rattle.machine.specs.Runs.{oddRooms, oversize, unknownEdition, unknownWay, checkTerms, checkRun, endOf, runWith, runOf}
 use Rattle.machine.proofs.LentTables.{tables-same, tables-even, placed-whole}
-use Rattle.machine.proofs.RunsKept.{check-fails}
 use Rattle.checker.specs.declared.run.Counts.{Counts}
 use Rattle.checker.specs.Stage.{lentOf}
 use Rattle.checker.specs.Whole.{Checked, Cleared, Runnable, resultWith, machineResult}

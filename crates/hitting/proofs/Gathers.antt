@@ -28,7 +28,7 @@ use Rattle.machine.specs.Hitting.{cover, casesOutside, casesFrom, forbidden, wi
 use Rattle.machine.proofs.Counted.{with-cases-joined, with-cases-longer}
 use Rattle.hitting.specs.Chained.{slotOf}
 use Rattle.hitting.specs.Sets.{Gathered, Filled, HasRoom, withRows, withSymbol}
-use Rattle.hitting.proofs.Linking.{one-more, Looking, told-below, told-linked, looking-found, looking-nearer, looking-goes}
+use Rattle.hitting.proofs.Linking.{one-more, Looking, told-below, looking-found, looking-goes}
 
 -- the search for a set along its chain, in the table
 module _ {table slots links : List ℕ} {count one number : ℕ} (filled : Filled (take count table) count table slots links)
@@ -42,14 +42,8 @@ module _ {table slots links : List ℕ} {count one number : ℕ} (filled : Fille
   pub place-in : number - 1 < length table
   place-in = omega (arith, place-used, filled .gathered .fits)
 
-  pub link-in : number - 1 < length links
-  link-in = told-linked looking some
-
   pub is-found : getD table (number - 1) 0 ≡ one → true ≡ any (eqb one) (take count table)
   is-found e = looking-found looking some (same-set ∙ e)
-
-  pub look-nearer : (next : ℕ) → next ≡ getD links (number - 1) 0 → next < number
-  look-nearer next is = looking-nearer looking some next is
 
   pub look-on : (next : ℕ) → next ≡ getD links (number - 1) 0 → (getD table (number - 1) 0 ≡ one → ⊥) → Looking (take count table) slots links one next
   look-on next is other = looking-goes looking some next is (λ e. other (sym same-set ∙ e))

@@ -15,6 +15,7 @@ use Rattle.automata.specs.Image.{Valid, check, checkImage, statesOf}
 use Rattle.automata.specs.Automaton.{automatonOf, HoldOne}
 use Rattle.automata.specs.Acceptance.{Accepted}
 use Rattle.automata.proofs.Checks.{check-number}
+use Rattle.automata.proofs.ValidImage.{check-fails}
 use Rattle.machine.specs.Machine.{Pending, Configuration, Rooms, blocks, step, passes, Next, ends, comesTo}
 use Rattle.machine.specs.Runs.{Lent, Terms, Result, systemOf, roomsOf, refused, resultOf, oddRooms, oversize}
 use Rattle.machine.specs.Runs.{unknownEdition, unknownWay}
@@ -34,11 +35,6 @@ use Rattle.machine.proofs.Judging.{Even, is-alone, rules, results-agree
 pub record Checked (image : List ℕ) (lent : Lent) : Type 0 where
   pub valid : Valid image
   pub even : Even lent
-
-pub check-fails : (b : Bool) (number later : ℕ) → check b (suc number) later ≡ 0 → (T b → ⊥) × (later ≡ 0)
-unfolding check
-check-fails true number later e = absurd (omega arith)
-check-fails false number later e = (λ t. t, e)
 
 check-high : (b : Bool) (number later : ℕ) → 20 ≤ number → (later ≡ 0) ⊎ (20 ≤ later) → (check b number later ≡ 0) ⊎ (20 ≤ check b number later)
 unfolding check

@@ -1,5 +1,5 @@
-use Rattle.hitting.proofs.Linking.{Looking, looking-starts, looking-ends}
-use Rattle.hitting.proofs.Gathers.{place-in, link-in, is-found, look-nearer, look-on}
+use Rattle.hitting.proofs.Linking.{Looking, looking-starts, told-linked, looking-nearer, looking-ends}
+use Rattle.hitting.proofs.Gathers.{place-in, is-found, look-on}
 use lib.ListN.{take}
 use borrow.Author.Needs.{needs}
 use Rattle.hitting.proofs.gathering.is_there.Statement.{statement}
@@ -37,10 +37,10 @@ sub-before : tie.Need-sub-before Inv-loop μ-loop
 sub-before c = search needs
 
 before-requires : tie.Need-before-requires Inv-loop μ-loop
-before-requires c κs = search (link-in, needs)
+before-requires c κs = search (told-linked, needs)
 
 loop-less : tie.Need-loop-less Inv-loop μ-loop
-loop-less c = search (look-nearer, needs)
+loop-less c = search (looking-nearer, needs)
 
 loop-again : tie.Need-loop-again Inv-loop μ-loop
 loop-again c = search (look-on, needs)
