@@ -5,14 +5,16 @@
    Every input is answered. No function keeps what it is lent, and none reads
    or writes outside it, if the caller sees to three things:
    - A pointer is good for the length beside it, which counts elements. It may
-     be null where that length is 0. head, length, counts and found are never
-     null.
-   - Tables are aligned as their type, head, length, counts and found too.
+     be null where that length is 0. head, length, counts, record and found are
+     never null.
+   - Tables are aligned as their type, head, length, counts, record and found
+     too.
    - Tables must not overlap: what a function may write (head, room, length,
-     masks, levels, entered, cases, symbols, counts, found; afa_why writes found
-     alone) shares no byte with anything else that it is lent in the same call.
-   afa_print_run takes some 520 KB of stack, afa_run some 50 KB, the others
-   little. */
+     masks, levels, entered, cases, symbols, counts, record, found; afa_why
+     writes found alone) shares no byte with anything else that it is lent in
+     the same call.
+   afa_print_run takes some 520 KB of stack, afa_run and afa_step some 50 KB,
+   the others little. */
 #ifndef AFA_H
 #define AFA_H
 
@@ -70,6 +72,54 @@ uint64_t afa_run(const uint8_t *image, size_t image_len,
                  const uint64_t *hints, size_t hints_len,
                  uint64_t allowance, uint64_t edition, uint64_t way,
                  uint64_t counts[4]);
+
+/* Begins a run that afa_step then makes one step at a time. What is lent is
+   what afa_run is lent, without an allowance; record has eight places: answer,
+   steps, level, open, blockers held, pending, blocks made, hints accepted. A
+   begin that is refused answers its number as afa_run would (20 to 27, 30, 31,
+   36, 37), leaves every table as it was, and record has that number and seven
+   zeros. Otherwise every place of the tables becomes 0, and the answer, which
+   record has too, is 6 for a run that works; or, where the initial case is
+   final already, 1 in edition 1 and 5 in edition 2. */
+uint64_t afa_begin(const uint8_t *image, size_t image_len,
+                   uint64_t *masks, size_t masks_len,
+                   uint32_t *levels, size_t levels_len,
+                   uint64_t *entered, size_t entered_len,
+                   uint64_t *cases, size_t cases_len,
+                   uint8_t *symbols, size_t symbols_len,
+                   const uint64_t *hints, size_t hints_len,
+                   uint64_t edition, uint64_t way,
+                   uint64_t record[8]);
+
+/* Makes one step of the run that record and the tables hold, as the call
+   before left them. Everything is checked again, as afa_begin does; then
+   record: 33 if its answer is above 6, more blockers are held than masks has
+   places, its level is above the places of cases, more is pending than its
+   level, or more blocks were made or hints accepted than steps. A refused step
+   answers its number and changes nothing, record included. A record whose
+   answer is 0 to 5 has finished: the step answers that again and changes
+   nothing. With 6 one step is made, with the hints, the allowance and the way
+   of this call; 2 if the steps made have reached or passed the allowance. Then
+   record and tables have the new state, and the answer is record's: 6, or 0 to
+   4 where the run has ended and the tables hold what afa_run leaves in them.
+   edition is checked, and that of the begin holds. Steps from an afa_begin on,
+   on one image and in the same tables, that are all given the same are the run
+   that afa_run makes; if hints, ways or allowances differ from step to step,
+   verdict and length of the word are still those of afa_run. Any record that
+   is not refused is stepped, made by afa_begin or not, for the places in use
+   as they stand: the first of masks, levels and entered, as many as are held,
+   and the first of cases and symbols, as many as are pending. Places that a
+   step frees become 0, and all others stay. open is 0 or 1, and any other
+   number is read as 1. */
+uint64_t afa_step(const uint8_t *image, size_t image_len,
+                  uint64_t *masks, size_t masks_len,
+                  uint32_t *levels, size_t levels_len,
+                  uint64_t *entered, size_t entered_len,
+                  uint64_t *cases, size_t cases_len,
+                  uint8_t *symbols, size_t symbols_len,
+                  const uint64_t *hints, size_t hints_len,
+                  uint64_t allowance, uint64_t edition, uint64_t way,
+                  uint64_t record[8]);
 
 /* Tells why a case is blocked at a level. 1 if it is blocked by a blocker, and
    found has the place, from 0, of the first in table order that covers it (of

@@ -1,14 +1,17 @@
 //! `afa_run`, `afa_accepts` and `afa_print_run` against the machine, the word test and the print written
-//! in Rust, as a table in Markdown: `cargo bench --bench runs`, after the library was built as for the
-//! tests.
+//! in Rust, and runs by `afa_begin` and `afa_step` against `afa_run`, as tables in Markdown: `cargo bench
+//! --bench runs`, after the library was built as for the tests.
 //!
 //! `afa_tests::measure` says how. Runs have no hints, edition 1 and way 0. A difference between the two
 //! sides ends the program with an error.
 
 use afa_tests::generate::prints::{accept, fill_up, mixing};
 use afa_tests::generate::runs::long_runs;
+use afa_tests::generate::ways::largest;
 use afa_tests::image::{all_states, rings, Model, Row};
-use afa_tests::measure::{grouped, measure, Asked, Measured, ROUNDS};
+use afa_tests::measure::{
+    grouped, measure, measure_steps, time_of_checks, Asked, Measured, ROUNDS,
+};
 use afa_tests::random::Random;
 use afa_tests::tables::Terms;
 use std::process::ExitCode;
@@ -18,6 +21,9 @@ const WORD_LENGTH: usize = 10_000;
 /// Of words over the rings of 2, 3 and 5 states that are printed: 29 and a multiple of 30, by which they
 /// are accepted. The library keeps 65,536 backward sets at a time, so the last goes another way.
 const PRINTED: [usize; 3] = [29 + 30 * 21, 29 + 30 * 2_183, 29 + 30 * 21_844];
+
+/// The rings that runs are measured on.
+const RINGS: [&[usize]; 2] = [&[2, 3, 5], &[2, 3, 5, 7]];
 
 struct Subject {
     name: String,
@@ -52,7 +58,44 @@ fn main() -> ExitCode {
         print_times[1].as_secs_f64() / print_times[0].as_secs_f64(),
         grouped(PRINTED[0])
     );
-    ExitCode::SUCCESS
+    match print_steps() {
+        Ok(()) => ExitCode::SUCCESS,
+        Err(difference) => {
+            eprintln!("{difference}");
+            ExitCode::FAILURE
+        }
+    }
+}
+
+/// The table of runs by steps and what stands below it, or in what they differ from the run in one call.
+fn print_steps() -> Result<(), String> {
+    println!(
+        "\n| run by steps | answer | begin and steps | one call | steps / one call: median (least to \
+         most) | added by a step | its checks |"
+    );
+    println!("|---|---|---|---|---|---|---|");
+    for sizes in RINGS {
+        let image = rings(sizes).image();
+        let measured = measure_steps(&image, Terms::plain(1 << 22))?;
+        let [by_steps, in_one_call] = measured.times();
+        // The begin checks too.
+        let calls = measured.answer.steps as u32 + 1;
+        println!(
+            "| rings {sizes:?} | {} | {by_steps:.1?} | {in_one_call:.1?} | {} | {:.1?} | {:.1?} |",
+            measured.answer,
+            measured.ratio(),
+            by_steps.saturating_sub(in_one_call) / calls,
+            time_of_checks(&image)
+        );
+    }
+    let model = largest(&mut Random::seeded(0), 2);
+    println!(
+        "\nThe checks of a step are those of a begin and of its record; on the largest image ({}) they \
+         take {:.1?}.",
+        model.sizes(),
+        time_of_checks(&model.image())
+    );
+    Ok(())
 }
 
 /// The subject's line of the table.
@@ -79,8 +122,7 @@ fn shown(asked: &Asked, measured: &Measured) -> String {
 }
 
 fn subjects() -> Vec<Subject> {
-    let ring_sizes = [&[2, 3, 5][..], &[2, 3, 5, 7]];
-    let rings = ring_sizes.map(|sizes| Subject {
+    let rings = RINGS.map(|sizes| Subject {
         name: format!("rings {sizes:?}"),
         model: rings(sizes),
         asked: Asked::Run(Terms::plain(1 << 22)),

@@ -1,14 +1,16 @@
 //! The library's C functions, and the calls of them with every slice in guarded memory. Each call is
-//! made once with the slices at either edge, and both must answer alike. `afa_run`, `afa_print_run`,
-//! `afa_why` and `afa_walk` stand in modules of their own.
+//! made once with the slices at either edge, and both must answer alike. `afa_run`, `afa_begin` with
+//! `afa_step`, `afa_print_run`, `afa_why` and `afa_walk` stand in modules of their own.
 
 use crate::compare::hexadecimal;
 use crate::fault;
 use crate::guarded::{ReadOnly, Writable, EDGES};
 use std::slice;
 
+mod lent;
 pub mod print;
 pub mod run;
+pub mod step;
 pub mod walk;
 pub mod why;
 

@@ -9,6 +9,7 @@ use std::fmt::Display;
 
 pub mod print;
 pub mod run;
+pub mod steps;
 pub mod walk;
 pub mod why;
 

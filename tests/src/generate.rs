@@ -8,6 +8,7 @@ use crate::random::Random;
 pub mod blockers;
 pub mod hints;
 pub mod prints;
+pub mod records;
 pub mod runs;
 pub mod stops;
 pub mod walks;

@@ -17,6 +17,7 @@ pub mod measure;
 pub mod print;
 pub mod random;
 pub mod rearrange;
+pub mod record;
 pub mod search;
 pub mod tables;
 pub mod text;

@@ -1,10 +1,11 @@
-//! The machine of a run, in the order of the requirements: open, extend, block, close. What stands in
-//! quotes is theirs (`docs/FORMAT.md`). It works in place on the tables that a run is lent and
+//! The machine of a run, in the order of the requirements: begin, open, extend, block, close. What
+//! stands in quotes is theirs (`docs/FORMAT.md`). It works in place on the tables that a run is lent and
 //! allocates nothing. Every test is made whenever they name it; nothing that was found is kept from
-//! one step to the next.
+//! one step to the next, so that a step can be made of any record and tables.
 
-use crate::checks::check;
-use crate::tables::{Answer, Rooms, Terms, EDITIONS};
+use crate::checks::{check, Head};
+use crate::record::{Record, WORKING};
+use crate::tables::{Answer, Rooms, Terms, EDITIONS, WAYS};
 use automaton::{contains, Automaton};
 use blockers::Blockers;
 use entered::EnteredTable;
@@ -44,6 +45,9 @@ pub enum Event<'a> {
         left: usize,
         was_full: bool,
     },
+    /// After a block that left nothing pending, F is: it was not what was blocked, as in a record that no
+    /// run has made.
+    PendingAgain,
     Rose {
         left_before: usize,
         left_behind: usize,
@@ -60,56 +64,98 @@ pub fn run_without_entered(image: &[u8], rooms: Rooms, terms: Terms<&[u64]>) -> 
     observed_run(image, rooms.without_entered(), terms, |_| {})
 }
 
-/// A run on any bytes, in any rooms and on any terms.
+/// A run on any bytes, in any rooms and on any terms: "begin, then steps".
 pub fn observed_run<Entered: EnteredTable>(
     image: &[u8],
     rooms: Rooms<Entered>,
     terms: Terms<&[u64]>,
     observe: impl FnMut(Event),
 ) -> Answer {
-    let head = match check(image) {
+    let head = match check_run(image, &rooms, &terms) {
         Ok(head) => head,
         Err(number) => return Answer::refused(number),
     };
+    let mut forbidden = None;
+    let growth = Growth::by_way(terms.way, &mut forbidden);
+    let mut machine = Machine::new(image, &head, rooms, terms, growth, observe);
+    let mut answer = machine.begin();
+    while answer == WORKING {
+        answer = machine.step();
+    }
+    machine.record(answer).five_numbers()
+}
+
+/// "Begin checks the input and makes the start". It has no allowance, and that of the terms is not asked
+/// for.
+pub fn begin(image: &[u8], rooms: Rooms, terms: Terms<&[u64]>) -> Record {
+    let head = match check_run(image, &rooms, &terms) {
+        Ok(head) => head,
+        // "A refused begin gives 0 in the other fields."
+        Err(number) => return Record::begun(number),
+    };
+    let mut forbidden = None;
+    let growth = Growth::by_way(terms.way, &mut forbidden);
+    let mut machine = Machine::new(image, &head, rooms, terms, growth, |_| {});
+    let answer = machine.begin();
+    machine.record(answer)
+}
+
+pub fn step(image: &[u8], rooms: Rooms, terms: Terms<&[u64]>, record: &mut Record) -> u64 {
+    observed_step(image, rooms, terms, record, |_| {})
+}
+
+/// "A second call checks it again and makes one step", of any record and for the places in use as they
+/// stand. "After the checks a finished record (0 to 5) gives its answer again and nothing changes; a
+/// refused step changes nothing either, the record included."
+pub fn observed_step(
+    image: &[u8],
+    rooms: Rooms,
+    terms: Terms<&[u64]>,
+    record: &mut Record,
+    observe: impl FnMut(Event),
+) -> u64 {
+    let head = match check_run(image, &rooms, &terms) {
+        Ok(head) => head,
+        Err(number) => return number,
+    };
+    if record.is_broken(rooms.masks.len(), rooms.cases.len()) {
+        return 33;
+    }
+    if !record.is_working() {
+        return record.answer;
+    }
+    let mut forbidden = None;
+    let growth = Growth::by_way(terms.way, &mut forbidden);
+    let mut machine = Machine::new(image, &head, rooms, terms, growth, observe);
+    machine.resume(record);
+    let answer = machine.step();
+    *record = machine.record(answer);
+    answer
+}
+
+/// The checks of all that a run takes: the image's head, or the number of the first that applies.
+fn check_run<Entered: EnteredTable>(
+    image: &[u8],
+    rooms: &Rooms<Entered>,
+    terms: &Terms<&[u64]>,
+) -> Result<Head, u64> {
+    let head = check(image)?;
     let (blocker_room, word_room) = (rooms.masks.len(), rooms.cases.len());
     let odd_blocker_room =
         rooms.levels.len() != blocker_room || !rooms.entered.has_length(blocker_room);
     if odd_blocker_room || rooms.symbols.len() != word_room {
-        return Answer::refused(30);
+        return Err(30);
     }
     if blocker_room.max(word_room).max(terms.hints.len()) > MOST_PLACES {
-        return Answer::refused(31);
+        return Err(31);
     }
     if !EDITIONS.contains(&terms.edition) {
-        return Answer::refused(36);
+        return Err(36);
     }
-    let mut forbidden;
-    let growth = match terms.way {
-        0 => Growth::StateByState,
-        1 => {
-            forbidden = Forbidden::new();
-            Growth::HittingSet(&mut forbidden)
-        }
-        _ => return Answer::refused(37),
-    };
-    let mut machine = Machine {
-        automaton: Automaton::new(image, &head),
-        blockers: Blockers::new(rooms.masks, rooms.levels, rooms.entered),
-        cases: rooms.cases,
-        symbols: rooms.symbols,
-        terms,
-        growth,
-        level: 0,
-        open: false,
-        pending: 0,
-        steps: 0,
-        blocks: 0,
-        hints_accepted: 0,
-        word_length: 0,
-        observe,
-    };
-    let number = machine.work();
-    machine.finish(number)
+    if !WAYS.contains(&terms.way) {
+        return Err(37);
+    }
+    Ok(head)
 }
 
 /// Whether each case is blocked at the level beside it, by I and the blockers that so many places of the
@@ -146,6 +192,16 @@ enum Growth<'a> {
     HittingSet(&'a mut Forbidden),
 }
 
+impl<'a> Growth<'a> {
+    /// The way is one that there is.
+    fn by_way(way: u64, forbidden: &'a mut Option<Forbidden>) -> Self {
+        match way {
+            0 => Growth::StateByState,
+            _ => Growth::HittingSet(forbidden.insert(Forbidden::new())),
+        }
+    }
+}
+
 /// Cases are pending at consecutive levels from N down, so the first place of word room is that of
 /// level N and the last one in use that of the lowest.
 struct Machine<'a, Entered, Observe> {
@@ -164,32 +220,92 @@ struct Machine<'a, Entered, Observe> {
     steps: u64,
     blocks: usize,
     hints_accepted: u64,
-    word_length: usize,
     observe: Observe,
 }
 
-impl<Entered: EnteredTable, Observe: FnMut(Event)> Machine<'_, Entered, Observe> {
-    /// "Start: if I is a subset of F, answer 1 with the empty word and 0 steps. Otherwise steps
-    /// follow. Before each step the allowance is tested (2), then the room that the step needs
-    /// (3 or 4). A pending case is worked on first; with none, an open N is closed; else a level is
-    /// opened." Of the editions "1 answers as now, 2 answers such a start by 5".
-    fn work(&mut self) -> u64 {
-        if contains(self.automaton.final_set, self.automaton.initial) {
-            return if self.terms.edition == 2 { 5 } else { 1 };
+impl<'a, Entered: EnteredTable, Observe: FnMut(Event)> Machine<'a, Entered, Observe> {
+    /// "The level N begins at 0, with no blockers and nothing pending", whatever the tables have in
+    /// them.
+    fn new(
+        image: &'a [u8],
+        head: &Head,
+        rooms: Rooms<'a, Entered>,
+        terms: Terms<&'a [u64]>,
+        growth: Growth<'a>,
+        observe: Observe,
+    ) -> Self {
+        Machine {
+            automaton: Automaton::new(image, head),
+            blockers: Blockers::new(rooms.masks, rooms.levels, rooms.entered),
+            cases: rooms.cases,
+            symbols: rooms.symbols,
+            terms,
+            growth,
+            level: 0,
+            open: false,
+            pending: 0,
+            steps: 0,
+            blocks: 0,
+            hints_accepted: 0,
+            observe,
         }
-        loop {
-            if self.steps == self.terms.allowance {
-                return 2;
-            }
-            let answer = if self.pending > 0 {
-                self.extend_or_block()
-            } else if self.open {
-                self.close()
-            } else {
-                self.open()
-            };
-            if let Some(number) = answer {
-                return number;
+    }
+
+    /// Goes on where the record is, which is not broken: the tables hold what is in use.
+    fn resume(&mut self, record: &Record) {
+        self.blockers.hold(record.held as usize);
+        self.level = record.level as u32;
+        self.open = record.open != 0;
+        self.pending = record.pending as usize;
+        self.steps = record.steps;
+        self.blocks = record.blocks as usize;
+        self.hints_accepted = record.accepted;
+    }
+
+    fn record(&self, answer: u64) -> Record {
+        Record {
+            answer,
+            steps: self.steps,
+            level: self.level.into(),
+            open: self.open.into(),
+            held: self.blockers.count() as u64,
+            pending: self.pending as u64,
+            blocks: self.blocks as u64,
+            accepted: self.hints_accepted,
+        }
+    }
+
+    /// "Start: if I is a subset of F, answer 1 with the empty word and 0 steps. Otherwise steps
+    /// follow." Of the editions "1 answers as now, 2 answers such a start by 5".
+    fn begin(&mut self) -> u64 {
+        self.blockers.clear_all();
+        self.cases.fill(0);
+        self.symbols.fill(0);
+        match contains(self.automaton.final_set, self.automaton.initial) {
+            true if self.terms.edition == 2 => 5,
+            true => 1,
+            false => WORKING,
+        }
+    }
+
+    /// "Before each step the allowance is tested (2), then the room that the step needs (3 or 4). A
+    /// pending case is worked on first; with none, an open N is closed; else a level is opened." "A
+    /// working record whose steps have reached or passed the step's allowance gets 2."
+    fn step(&mut self) -> u64 {
+        let ended = if self.steps >= self.terms.allowance {
+            Some(2)
+        } else if self.pending > 0 {
+            self.extend_or_block()
+        } else if self.open {
+            self.close()
+        } else {
+            self.open()
+        };
+        match ended {
+            None => WORKING,
+            Some(number) => {
+                self.end(number);
+                number
             }
         }
     }
@@ -202,13 +318,20 @@ impl<Entered: EnteredTable, Observe: FnMut(Event)> Machine<'_, Entered, Observe>
         self.steps += 1;
         self.level += 1;
         self.open = true;
+        let pending = self.begin_at_final();
+        (self.observe)(Event::Opened { pending });
+        None
+    }
+
+    /// With nothing pending: "After an open, or a block that leaves nothing pending", F becomes pending
+    /// at N if it is not blocked there. Answers whether it does.
+    fn begin_at_final(&mut self) -> bool {
         let final_set = self.automaton.final_set;
         let pending = !self.blocked(final_set, self.level);
         if pending {
             self.push(final_set, 0);
         }
-        (self.observe)(Event::Opened { pending });
-        None
+        pending
     }
 
     /// "For the pending case X of lowest level i, the symbols are tried from 0 upward, and the first
@@ -226,14 +349,14 @@ impl<Entered: EnteredTable, Observe: FnMut(Event)> Machine<'_, Entered, Observe>
     }
 
     /// "If P contains I: answer 1; the word is that symbol, then the symbols that led to the pending
-    /// cases from the lowest level up. Otherwise P becomes pending at i-1."
+    /// cases from the lowest level up. Otherwise P becomes pending at i-1." No symbol led to the first,
+    /// so that the word is as long as cases are pending.
     fn extend(&mut self, symbol: u8, backward: u64) -> Option<u64> {
         self.steps += 1;
         (self.observe)(Event::Extended { symbol });
         if contains(backward, self.automaton.initial) {
             self.symbols[0] = symbol;
             self.symbols[1..self.pending].reverse();
-            self.word_length = self.pending;
             return Some(1);
         }
         self.push(backward, symbol);
@@ -261,7 +384,7 @@ impl<Entered: EnteredTable, Observe: FnMut(Event)> Machine<'_, Entered, Observe>
         self.blockers.enter(blocker, level, self.steps);
         self.blocks += 1;
         self.hints_accepted += u64::from(hint.is_some());
-        self.pending -= 1;
+        self.pop();
         (self.observe)(Event::Blocked {
             pending: case,
             blocker,
@@ -269,6 +392,9 @@ impl<Entered: EnteredTable, Observe: FnMut(Event)> Machine<'_, Entered, Observe>
             left,
             was_full,
         });
+        if self.pending == 0 && self.begin_at_final() {
+            (self.observe)(Event::PendingAgain);
+        }
         None
     }
 
@@ -359,17 +485,19 @@ impl<Entered: EnteredTable, Observe: FnMut(Event)> Machine<'_, Entered, Observe>
         self.pending += 1;
     }
 
-    /// "Pending cases are all 0"; the symbol table holds the word from its first place if the answer is
-    /// 1, "and 0 elsewhere; the blocker room holds the entries in table order, with 0 after them."
-    fn finish(self, number: u64) -> Answer {
-        self.cases.fill(0);
-        self.symbols[self.word_length..].fill(0);
-        Answer {
-            number,
-            steps: self.steps,
-            level: u64::from(self.level),
-            blockers: self.blockers.finish() as u64,
-            hints_accepted: self.hints_accepted,
-        }
+    /// The places that are freed become 0.
+    fn pop(&mut self) {
+        self.pending -= 1;
+        self.cases[self.pending] = 0;
+        self.symbols[self.pending] = 0;
+    }
+
+    /// "Until the run ends, with nothing pending then": the places that were in use become 0, but for
+    /// those of the word if the answer is 1.
+    fn end(&mut self, number: u64) {
+        let word_length = if number == 1 { self.pending } else { 0 };
+        self.cases[..self.pending].fill(0);
+        self.symbols[word_length..self.pending].fill(0);
+        self.pending = 0;
     }
 }

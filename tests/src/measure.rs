@@ -1,5 +1,5 @@
-//! The time of the library beside that of the machine, the word test and the print written in Rust:
-//! what the benchmarks share.
+//! The time of the library beside that of the machine, the word test and the print written in Rust, and
+//! that of its runs by begin and steps beside its runs in one call: what the benchmarks share.
 //!
 //! Both sides go in one process and in turn, on the same image. Runs are lent rooms of 1,024 places
 //! that are cleared before each; prints are lent a room of just their length, cleared too; clearing and
@@ -9,6 +9,7 @@
 
 use crate::afa;
 use crate::machine;
+use crate::record::{Record, WORKING};
 use crate::tables::{Answer, Tables, Terms};
 use std::ffi::c_int;
 use std::hint::black_box;
@@ -50,23 +51,25 @@ struct Lent {
 /// What both sides answered, and how long it took them: of the rounds, in order.
 pub struct Measured {
     pub answer: Answer,
-    library_times: Vec<Duration>,
-    rust_times: Vec<Duration>,
+    times: [Vec<Duration>; 2],
     ratios: Vec<f64>,
 }
 
 impl Measured {
-    /// The median.
+    /// The median of each side: the library and Rust, or steps and one call.
+    pub fn times(&self) -> [Duration; 2] {
+        [0, 1].map(|side| self.times[side][ROUNDS / 2])
+    }
+
     pub fn library_time(&self) -> Duration {
-        self.library_times[ROUNDS / 2]
+        self.times()[0]
     }
 
-    /// The median.
     pub fn rust_time(&self) -> Duration {
-        self.rust_times[ROUNDS / 2]
+        self.times()[1]
     }
 
-    /// The library's time by that of Rust: the median, the least and the most.
+    /// The first side's time by that of the second: the median, the least and the most.
     pub fn ratio(&self) -> String {
         let [median, least, most] = [ROUNDS / 2, 0, ROUNDS - 1].map(|place| self.ratios[place]);
         format!("{median:.2} ({least:.2} to {most:.2})")
@@ -123,54 +126,110 @@ fn lent_for(image: &[u8], asked: &Asked) -> Lent {
     Lent { tables, room }
 }
 
-/// What was measured, or in what the two sides differ.
+/// The library and Rust: what was measured, or in what the two sides differ.
 pub fn measure(image: &[u8], asked: &Asked) -> Result<Measured, String> {
-    let run_library = |lent: &mut Lent| ask_library(black_box(image), black_box(asked), lent);
-    let run_rust = |lent: &mut Lent| ask_rust(black_box(image), black_box(asked), lent);
+    let library = |lent: &mut Lent| ask_library(black_box(image), black_box(asked), lent);
+    let rust = |lent: &mut Lent| ask_rust(black_box(image), black_box(asked), lent);
     let mut both = [0, 1].map(|_| lent_for(image, asked));
-    let [library_lent, rust_lent] = &mut both;
+    in_turn(&mut both, library, rust, "in Rust")
+}
+
+/// The library's run by begin and steps, and its run in one call.
+pub fn measure_steps(image: &[u8], terms: Terms) -> Result<Measured, String> {
+    let asked = &Asked::Run(terms);
+    let by_steps = |lent: &mut Lent| run_by_steps(black_box(image), black_box(asked), lent);
+    let in_one_call = |lent: &mut Lent| ask_library(black_box(image), black_box(asked), lent);
+    let mut both = [0, 1].map(|_| lent_for(image, asked));
+    in_turn(&mut both, by_steps, in_one_call, "in one call")
+}
+
+fn run_by_steps(image: &[u8], asked: &Asked, lent: &mut Lent) -> Answer {
+    let Asked::Run(terms) = asked else {
+        unreachable!("only runs are made of steps")
+    };
+    let mut record = [0; 8];
+    let mut answer = afa::step::begin(image, lent.tables.lend(), terms.lend(), &mut record);
+    while answer == WORKING {
+        answer = afa::step::step(image, lent.tables.lend(), terms.lend(), &mut record);
+    }
+    Record::of_numbers(record).five_numbers()
+}
+
+/// How long a step takes on a record that is finished, which is nothing but the checks: the median of the
+/// rounds.
+pub fn time_of_checks(image: &[u8]) -> Duration {
+    const REPEATS: u32 = 1_000;
+    let mut tables = Tables::cleared(PLACES, PLACES);
+    let mut record = Record::begun(0).numbers();
+    let mut times = [0; ROUNDS].map(|_| {
+        let start = processor_time();
+        for _ in 0..REPEATS {
+            let terms = black_box(Terms::plain(1));
+            let answer = afa::step::step(black_box(image), tables.lend(), terms, &mut record);
+            assert_eq!(answer, 0);
+        }
+        (processor_time() - start) / REPEATS
+    });
+    times.sort();
+    times[ROUNDS / 2]
+}
+
+/// The rounds of two sides, or in what the first differs from the second, which has a name.
+fn in_turn(
+    both: &mut [Lent; 2],
+    run_first: impl Fn(&mut Lent) -> Answer,
+    run_second: impl Fn(&mut Lent) -> Answer,
+    second_side: &str,
+) -> Result<Measured, String> {
+    let [first_lent, second_lent] = both;
 
     // The first turn of either side also tells how many make a round.
-    let (time, answer) = timed(rust_lent, run_rust);
-    timed(library_lent, run_library);
+    let (time, answer) = timed(second_lent, &run_second);
+    timed(first_lent, &run_first);
     let repeats = ROUND.as_nanos().div_ceil(2 * time.as_nanos().max(1)) as u32;
 
     let mut measured = Measured {
         answer,
-        library_times: Vec::new(),
-        rust_times: Vec::new(),
+        times: [Vec::new(), Vec::new()],
         ratios: Vec::new(),
     };
     for _ in 0..ROUNDS {
-        let (mut library_time, mut rust_time) = (Duration::ZERO, Duration::ZERO);
+        let mut times = [Duration::ZERO; 2];
         for repeat in 0..repeats {
-            let (library, rust);
+            let (first, second);
             if repeat % 2 == 0 {
-                library = timed(library_lent, run_library);
-                rust = timed(rust_lent, run_rust);
+                first = timed(first_lent, &run_first);
+                second = timed(second_lent, &run_second);
             } else {
-                rust = timed(rust_lent, run_rust);
-                library = timed(library_lent, run_library);
+                second = timed(second_lent, &run_second);
+                first = timed(first_lent, &run_first);
             }
-            if library.1 != rust.1 {
-                return Err(format!("{:?} but in Rust {:?}", library.1, rust.1));
+            if first.1 != second.1 {
+                return Err(format!("{:?} but {second_side} {:?}", first.1, second.1));
             }
-            if compared(&library_lent.tables) != compared(&rust_lent.tables) {
-                return Err(format!("{:?} with other tables than in Rust", library.1));
+            if compared(&first_lent.tables) != compared(&second_lent.tables) {
+                return Err(format!(
+                    "{:?} with other tables than {second_side}",
+                    first.1
+                ));
             }
-            if library_lent.room != rust_lent.room {
-                return Err(format!("{:?} with another print than in Rust", library.1));
+            if first_lent.room != second_lent.room {
+                return Err(format!(
+                    "{:?} with another print than {second_side}",
+                    first.1
+                ));
             }
-            library_time += library.0;
-            rust_time += rust.0;
+            times[0] += first.0;
+            times[1] += second.0;
         }
-        measured.library_times.push(library_time / repeats);
-        measured.rust_times.push(rust_time / repeats);
-        let ratio = library_time.as_secs_f64() / rust_time.as_secs_f64();
-        measured.ratios.push(ratio);
+        for (side, time) in measured.times.iter_mut().zip(times) {
+            side.push(time / repeats);
+        }
+        measured
+            .ratios
+            .push(times[0].as_secs_f64() / times[1].as_secs_f64());
     }
-    measured.library_times.sort();
-    measured.rust_times.sort();
+    measured.times.iter_mut().for_each(|times| times.sort());
     measured.ratios.sort_by(f64::total_cmp);
     Ok(measured)
 }

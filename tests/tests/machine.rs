@@ -1,5 +1,6 @@
 //! The machine alone, without the library: numbers and blockers that are known beforehand, the machine
-//! without the table of when blockers entered, what an edition changes, and verdicts by the search.
+//! without the table of when blockers entered, begin and steps, what an edition changes, and verdicts by
+//! the search.
 
 use afa_tests::generate::aim;
 use afa_tests::generate::hints::hints;
@@ -7,7 +8,7 @@ use afa_tests::generate::runs::{
     affordable_steps, lent, run_model, run_model_of, unknown_edition, unknown_way, Earlier,
 };
 use afa_tests::image::{model_a, model_b, model_c, model_d, rings};
-use afa_tests::machine::{run, run_without_entered};
+use afa_tests::machine::{begin, run, run_without_entered, step};
 use afa_tests::random::Random;
 use afa_tests::search::assert_right;
 use afa_tests::tables::{Answer, Blocker, Tables, Terms, EDITIONS, WAYS};
@@ -130,6 +131,41 @@ fn without_entered() {
     );
     assert!(by_number[..5].iter().all(|&count| count > 100));
     assert!(by_number[5] > 30 && most_blockers > 50);
+}
+
+/// Begin, and steps that are made of nothing but record and tables, lead to the run's end. Until then the
+/// places that are not in use are 0.
+#[test]
+fn begin_and_steps() {
+    let mut random = Random::seeded(15);
+    let mut by_number = [0_usize; 6];
+    for _ in 0..6_000 {
+        let model = run_model(&mut random);
+        let image = model.image();
+        let affordable = affordable_steps(&model, 50_000);
+        let earlier = Earlier::of_either_way(&mut random, &image, affordable);
+        let lent = lent(&mut random, &model, &earlier, affordable);
+        let mut tables = lent.before.clone();
+        let terms = lent.terms.lend();
+        let mut record = begin(&image, tables.lend(), terms);
+        while record.is_working() {
+            let (held, pending) = (record.held as usize, record.pending as usize);
+            assert!(tables.masks[held..].iter().all(|&mask| mask == 0));
+            assert!(tables.levels[held..].iter().all(|&level| level == 0));
+            assert!(tables.entered[held..].iter().all(|&entered| entered == 0));
+            assert!(tables.cases[pending..].iter().all(|&case| case == 0));
+            assert!(tables.symbols[pending..].iter().all(|&symbol| symbol == 0));
+            let answer = step(&image, tables.lend(), terms, &mut record);
+            assert_eq!(answer, record.answer, "{model}");
+        }
+        let mut after = lent.before.clone();
+        let answer = run(&image, after.lend(), terms);
+        assert_eq!(record.five_numbers(), answer, "{model}");
+        assert_eq!(tables, after, "{model}");
+        by_number[answer.number as usize] += 1;
+    }
+    println!("6000 models by begin and steps: {by_number:?}");
+    assert!(by_number[..5].iter().all(|&count| count > 100));
 }
 
 /// The edition changes the number of a final start and nothing else, and one that there is not is

@@ -4,10 +4,12 @@
 use afa_tests::afa::interface::{afa_accepts, afa_read};
 use afa_tests::afa::print::interface::afa_print_run;
 use afa_tests::afa::run::interface::afa_run;
+use afa_tests::afa::step::interface::{afa_begin, afa_step};
 use afa_tests::afa::walk::interface::afa_walk;
 use afa_tests::afa::why::interface::afa_why;
 use afa_tests::image::{model_a, model_b, model_c, model_d};
 use afa_tests::machine;
+use afa_tests::record::Record;
 use afa_tests::tables::{Answer, Tables, Terms, CHOICES};
 use std::ptr::{null, null_mut};
 
@@ -150,6 +152,141 @@ fn run() {
         }
         expect(&[], nothing, unknown, [20, 0, 0, 0, 0]);
         expect(&a, [0, 4, 4, 4, 4], unknown, [30, 0, 0, 0, 0]);
+    }
+}
+
+/// A begin with rooms of these lengths, and then steps of what it leaves, each table and the hints null if
+/// empty, against the machine. The last step's record is the one said.
+fn expect_steps(image: &[u8], lengths: [usize; 5], terms: Terms<&[u64]>, numbers: [u64; 8]) {
+    let [masks, levels, entered, cases, symbols] = lengths;
+    let mut tables = Tables {
+        masks: vec![9; masks],
+        levels: vec![9; levels],
+        entered: vec![9; entered],
+        cases: vec![9; cases],
+        symbols: vec![9; symbols],
+    };
+    let mut expected = tables.clone();
+    let mut expected_record = machine::begin(image, expected.lend(), terms);
+    let mut record = [7; 8];
+    // SAFETY: what is null has no elements, the rest as many as it says, and the record eight.
+    let mut number = unsafe {
+        afa_begin(
+            pointer(image),
+            image.len(),
+            pointer_mut(&mut tables.masks),
+            masks,
+            pointer_mut(&mut tables.levels),
+            levels,
+            pointer_mut(&mut tables.entered),
+            entered,
+            pointer_mut(&mut tables.cases),
+            cases,
+            pointer_mut(&mut tables.symbols),
+            symbols,
+            pointer(terms.hints),
+            terms.hints.len(),
+            terms.edition,
+            terms.way,
+            record.as_mut_ptr(),
+        )
+    };
+    let mut expected_number = expected_record.answer;
+    // One more than there are to make.
+    for _ in 0..8 {
+        assert_eq!(number, expected_number, "{lengths:?}, {terms:?}");
+        assert_eq!(
+            Record::of_numbers(record),
+            expected_record,
+            "{lengths:?}, {terms:?}"
+        );
+        assert_eq!(tables, expected, "{lengths:?}, {terms:?}");
+        expected_number = machine::step(image, expected.lend(), terms, &mut expected_record);
+        // SAFETY: as above.
+        number = unsafe {
+            afa_step(
+                pointer(image),
+                image.len(),
+                pointer_mut(&mut tables.masks),
+                masks,
+                pointer_mut(&mut tables.levels),
+                levels,
+                pointer_mut(&mut tables.entered),
+                entered,
+                pointer_mut(&mut tables.cases),
+                cases,
+                pointer_mut(&mut tables.symbols),
+                symbols,
+                pointer(terms.hints),
+                terms.hints.len(),
+                terms.allowance,
+                terms.edition,
+                terms.way,
+                record.as_mut_ptr(),
+            )
+        };
+    }
+    assert_eq!(record, numbers, "{lengths:?}, {terms:?}");
+}
+
+#[test]
+fn begin_and_step() {
+    let models = [model_a(), model_b(), model_c(), model_d()];
+    let [a, b, c, d] = models.map(|model| model.image());
+    let refused = |number| [number, 0, 0, 0, 0, 0, 0, 0];
+    let nothing = [0; 5];
+    for [edition, way] in CHOICES {
+        let terms = |hints: &'static [u64], allowance| Terms {
+            hints,
+            allowance,
+            edition,
+            way,
+        };
+        expect_steps(&[], nothing, terms(&[], 100), refused(20));
+        expect_steps(&[], [4; 5], terms(&[4], 100), refused(20));
+        let final_start = [if edition == 2 { 5 } else { 1 }, 0, 0, 0, 0, 0, 0, 0];
+        expect_steps(&d, nothing, terms(&[], 0), final_start);
+        expect_steps(&d, nothing, terms(&[4], u64::MAX), final_start);
+        expect_steps(&a, nothing, terms(&[], 0), [2, 0, 0, 0, 0, 0, 0, 0]);
+        expect_steps(&a, nothing, terms(&[], 100), [4, 0, 0, 0, 0, 0, 0, 0]);
+        let [no_word_room, no_blocker_room] = [[4, 4, 4, 0, 0], [0, 0, 0, 4, 4]];
+        expect_steps(&a, no_word_room, terms(&[], 100), [4, 0, 0, 0, 0, 0, 0, 0]);
+        expect_steps(
+            &a,
+            no_blocker_room,
+            terms(&[], 100),
+            [3, 1, 1, 1, 0, 0, 0, 0],
+        );
+        expect_steps(
+            &a,
+            no_blocker_room,
+            terms(&[2], 1),
+            [2, 1, 1, 1, 0, 0, 0, 0],
+        );
+        expect_steps(
+            &b,
+            [0, 0, 0, 1, 1],
+            terms(&[], 100),
+            [1, 2, 1, 1, 0, 0, 0, 0],
+        );
+        expect_steps(&c, [4; 5], terms(&[], 100), [1, 6, 2, 1, 1, 0, 1, 0]);
+        for lengths in [
+            [0, 4, 4, 4, 4],
+            [4, 0, 4, 4, 4],
+            [4, 4, 0, 4, 4],
+            [4, 4, 4, 0, 4],
+        ] {
+            expect_steps(&c, lengths, terms(&[], 100), refused(30));
+        }
+    }
+    for (edition, way, number) in [(3, 0, 36), (3, 2, 36), (1, 2, 37), (2, 2, 37)] {
+        let unknown = Terms {
+            edition,
+            way,
+            ..Terms::plain(100)
+        };
+        expect_steps(&a, nothing, unknown, refused(number));
+        expect_steps(&d, [4; 5], unknown, refused(number));
     }
 }
 

@@ -5,6 +5,8 @@ pub mod Blocking
 pub mod Working
 pub mod Closing
 pub mod Stepping
-pub mod Running
+pub mod Starting
 pub mod Going
 pub mod Checking
+pub mod Calling
+pub mod Walk

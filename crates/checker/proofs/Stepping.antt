@@ -13,7 +13,7 @@ use Rattle.automata.specs.Answers.{ReadAs}
 use Rattle.machine.specs.Machine.{Pending, Configuration, finalPending, stepOn, step, Step, stepsLack, judge, advance}
 use Rattle.machine.specs.Lent.{BlockerRoom, unstampedRoom, blockersFrom, pendingFirst}
 use Rattle.machine.specs.Runs.{systemOf, stepGiven, roomsOf, numberOf, symbolsIn}
-use Rattle.machine.specs.Records.{Stage, configurationOf, after, stepOf}
+use Rattle.machine.specs.Records.{Stage, configurationOf, after, workingStep}
 use Rattle.machine.proofs.Steps.{step-raised}
 use Rattle.checker.specs.declared.record.Run.{Run}
 use Rattle.checker.specs.Stage.{stage, choicesOf, madeBy, Ready, leftOf, Leaves, Opened, ClosesLevel}
@@ -24,23 +24,23 @@ use Rattle.checker.proofs.Closing.{close-is}
 module _ {image : List ℕ} {head : Head} {room : BlockerRoom} {cases symbols : List ℕ} {run : Run} (read : ReadAs image head)
     (ready : Ready (stage room cases symbols run)) (hints : List ℕ) (allowance way : ℕ) where
   pub step-stops : {cases′ symbols′ : List ℕ} {r : Run} → allowance ≤ run .steps → Leaves run (leftOf run 2 0) [] [] r cases symbols cases′ symbols′
-      → stage room cases′ symbols′ r ≡ stepOf image (stepGiven image hints allowance way) (stage room cases symbols run)
-  unfolding stepOf advance choose numberOf symbolsIn
+      → stage room cases′ symbols′ r ≡ workingStep image (stepGiven image hints allowance way) (stage room cases symbols run)
+  unfolding workingStep advance choose numberOf symbolsIn
   step-stops l leaves =
       stopped-is ready (stepsLack (configurationOf (stage room cases symbols run))) refl refl leaves ∙ sym (rw (le-ltb (run .steps) allowance l))
 
   module _ (allowed : run .steps < allowance) where
     -- within the allowance a step is the machine's step
     step-is : madeBy (step (systemOf image) (choicesOf image hints way)) (stage room cases symbols run)
-        ≡ stepOf image (stepGiven image hints allowance way) (stage room cases symbols run)
-    unfolding madeBy stepOf advance choose
+        ≡ workingStep image (stepGiven image hints allowance way) (stage room cases symbols run)
+    unfolding madeBy workingStep advance choose
     step-is =
         ap (λ (st : Step). after (stage room cases symbols run) (judge (roomsOf (stage room cases symbols run .tables)) (configurationOf (stage room cases symbols run)) st))
         (sym (step-raised (systemOf image) allowance (choicesOf image hints way) (configurationOf (stage room cases symbols run))))
         ∙ sym (rw (lt-ltb (run .steps) allowance allowed))
 
     pub step-works : {later : Stage} → later ≡ madeBy (step (systemOf image) (choicesOf image hints way)) (stage room cases symbols run)
-        → later ≡ stepOf image (stepGiven image hints allowance way) (stage room cases symbols run)
+        → later ≡ workingStep image (stepGiven image hints allowance way) (stage room cases symbols run)
     step-works made = made ∙ step-is
 
     module _ (nothing : run .pending ≤ 0) where
@@ -57,7 +57,7 @@ module _ {image : List ℕ} {head : Head} {room : BlockerRoom} {cases symbols : 
 
       made-on : (isOpen : Bool) → run .opened ≡ isOpen
           → madeBy (λ (c : Configuration). stepOn (systemOf image) (choicesOf image hints way) c [] isOpen) (stage room cases symbols run)
-          ≡ stepOf image (stepGiven image hints allowance way) (stage room cases symbols run)
+          ≡ workingStep image (stepGiven image hints allowance way) (stage room cases symbols run)
       unfolding madeBy
       made-on isOpen e =
           ap (λ (st : Step). after (stage room cases symbols run) (judge (roomsOf (stage room cases symbols run .tables)) (configurationOf (stage room cases symbols run)) st))
@@ -65,7 +65,7 @@ module _ {image : List ℕ} {head : Head} {room : BlockerRoom} {cases symbols : 
           ∙ step-is
 
       pub step-closes : {room′ : BlockerRoom} {r : Run} → run .opened ≡ true → ClosesLevel (systemOf image) run r room room′
-          → stage room′ cases symbols r ≡ stepOf image (stepGiven image hints allowance way) (stage room cases symbols run)
+          → stage room′ cases symbols r ≡ workingStep image (stepGiven image hints allowance way) (stage room cases symbols run)
       unfolding stepOn madeBy
       step-closes e closes = let none : run .pending ≡ 0 = omega arith in close-is none closes ∙ made-on true e
 
@@ -73,6 +73,6 @@ module _ {image : List ℕ} {head : Head} {room : BlockerRoom} {cases symbols : 
           → Opened (ltb (run .level .0) (length cases)) run
           (finalPending (head .initial) (head .finals ∷ []) (blockersFrom (unstampedRoom (room .masks) (room .levels)) (run .held) 0) (run .level .0 + 1))
           r cases symbols cases′ symbols′
-          → stage room cases′ symbols′ r ≡ stepOf image (stepGiven image hints allowance way) (stage room cases symbols run)
+          → stage room cases′ symbols′ r ≡ workingStep image (stepGiven image hints allowance way) (stage room cases symbols run)
       unfolding stepOn madeBy
       step-opens e leaves = open-is (head .initial) (head .finals) ready leaves ∙ rw (read .read) (made-on false e)

@@ -1,8 +1,9 @@
 -- The checker's record and tables as the machine's stage, and what its functions leave of them. Assumes nothing: these are definitions.
-use Prim.Native.Nat.{ℕ, _+_, _≤_, _<_}
+use Prim.Native.Nat.{ℕ, zero, suc, _+_, _≤_, _<_}
 use mathlib.Core.Path.{_≡_}
 use mathlib.Core.Bool.{Bool, true, false}
 use mathlib.Core.List.{List, [], _∷_}
+use lib.Dec.{eqb}
 use lib.ListN.{length}
 use Rattle.lists.specs.Tests.{choose}
 use Rattle.automata.specs.Image.{initialOf, finalOf}
@@ -10,7 +11,7 @@ use Rattle.machine.specs.System.{System}
 use Rattle.machine.specs.Machine.{Pending, Configuration, Given, Step, judge, wordOf, blockStep, chosen}
 use Rattle.machine.specs.Lent.{BlockerRoom, EvenRoom, columnBack, caseOf, symbolOf, placed}
 use Rattle.machine.specs.Runs.{Lent, Terms, systemOf, roomsOf, stepGiven}
-use Rattle.machine.specs.Records.{RunRecord, Stage, configurationOf, after}
+use Rattle.machine.specs.Records.{RunRecord, Stage, configurationOf, after, workingStep}
 use Rattle.blockers.specs.Room.{tableOf, Placed}
 use Rattle.closing.specs.Close.{isEmpty, emptyLevel, closedBy}
 use Rattle.checker.specs.declared.record.Run.{Run}
@@ -41,6 +42,11 @@ recordIn run = record {
 -- the tables and the record, as they stand between two steps
 abbrev pub stage : BlockerRoom → List ℕ → List ℕ → Run → Stage
 stage room cases symbols run = record { tables = lentOf room cases symbols; run = recordIn run }
+
+-- so many calls one after the other, of which none is refused: each makes a step if the record works
+unfoldable pub wentOn : List ℕ → Given → ℕ → Stage → Stage
+wentOn image given zero at = at
+wentOn image given (suc calls) at = wentOn image given calls (choose (eqb (at .run .answer) 6) (workingStep image given at) at)
 
 -- what a machine's step leaves, judged by the rooms
 unfoldable pub madeBy : (Configuration → Step) → Stage → Stage

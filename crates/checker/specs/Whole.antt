@@ -1,12 +1,8 @@
--- A whole run: what it begins with, and its five numbers as 01's result. Assumes nothing: these are definitions.
-use Prim.Native.Nat.{ℕ, _≤_}
-use mathlib.Core.Path.{_≡_}
+-- A whole run: its five numbers as 01's result. Assumes nothing: these are definitions.
+use Prim.Native.Nat.{ℕ}
 use mathlib.Core.List.{List}
-use lib.ListN.{length}
-use Rattle.automata.specs.declared.image.Head.{Head}
-use Rattle.automata.specs.Answers.{ReadAs}
-use Rattle.machine.specs.Lent.{BlockerRoom, EvenRoom}
-use Rattle.machine.specs.Runs.{Lent, zeroed, Terms, Result, roomsOf, resultOf, endOf}
+use Rattle.machine.specs.Lent.{BlockerRoom}
+use Rattle.machine.specs.Runs.{Result}
 use Rattle.checker.specs.Stage.{lentOf}
 use Rattle.checker.specs.declared.record.Run.{Run}
 use Rattle.checker.specs.declared.run.Counts.{Counts}
@@ -31,24 +27,3 @@ resultWith counts room cases symbols = record {
   accepted = counts .accepted;
   tables = lentOf room cases symbols;
 }
-
--- the rooms have passed their checks
-pub record Checked (room : BlockerRoom) (cases symbols : List ℕ) : Type 0 where
-  pub blocker-room : EvenRoom room
-  pub word-room : length cases ≡ length symbols
-  pub few-places : length cases ≤ 65536
-
--- every place holds 0
-pub record Cleared (room : BlockerRoom) (cases symbols : List ℕ) (room′ : BlockerRoom) (cases′ symbols′ : List ℕ) : Type 0 where
-  pub new-room : room′ ≡ zeroed (lentOf room cases symbols) .room
-  pub new-cases : cases′ ≡ zeroed (lentOf room cases symbols) .cases
-  pub new-symbols : symbols′ ≡ zeroed (lentOf room cases symbols) .symbols
-
--- what the machine's run needs: a valid image's head, and rooms that have passed their checks
-pub record Runnable (image : List ℕ) (head : Head) (room : BlockerRoom) (cases symbols : List ℕ) : Type 0 where
-  pub image-read : ReadAs image head
-  pub rooms : Checked room cases symbols
-
--- the result of the machine's run in these rooms
-unfoldable pub machineResult : List ℕ → Lent → Terms → Result
-machineResult image lent terms = resultOf lent (endOf image (roomsOf lent) terms)

@@ -1,8 +1,9 @@
-// What a run carries from one step to the next; the tables are lent beside it.
+// What a run carries from one step to the next, inside a call and between calls; the tables are lent beside it.
 use blockers::Level;
 ghost use mathlib.Core.Path.{_≡_};
-ghost use Prim.Native.Nat.{_<_};
-ghost use Rattle.checker.specs.Stage.{leftOf, countedOf, blockedOf, Countable};
+ghost use Prim.Native.Nat.{_≤_, _<_};
+ghost use Rattle.checker.specs.Stage.{recordIn, leftOf, countedOf, blockedOf, Countable};
+ghost use Rattle.checker.specs.Calls.{recordAs};
 
 // `answer` is 6 while the run works, then the number of its end. Of the blocker room the first `held` places are in use, of the word room the first
 // `pending`. `blocks` counts the blocks made, `accepted` those that took a hint.
@@ -50,5 +51,53 @@ impl Run {
         next.blocks = self.blocks + 1;
         next.accepted = self.accepted + hinted;
         next
+    }
+
+    // The record that its owner keeps until the next step.
+    pub(crate) fn to_record(self) -> Record
+        ensures { λ r. ⌜ recordAs r ≡ recordIn self ⌝ }
+    {
+        let level = self.level;
+        Record {
+            answer: self.answer as u64,
+            steps: self.steps,
+            level: level.0 as u64,
+            opened: self.opened,
+            held: self.held as u64,
+            pending: self.pending as u64,
+            blocks: self.blocks,
+            accepted: self.accepted,
+        }
+    }
+}
+
+// The run's record between two calls. It belongs to the caller, so each number may be any.
+pub struct Record {
+    pub answer: u64,
+    pub steps: u64,
+    pub level: u64,
+    pub opened: bool,
+    pub held: u64,
+    pub pending: u64,
+    pub blocks: u64,
+    pub accepted: u64,
+}
+
+impl Record {
+    // The run that a record stands for, where its answer and its level have passed the check.
+    pub(crate) fn to_run(self) -> Run
+        requires { ⌜ (self .answer ≤ 6) × (self .level ≤ 65536) ⌝ }
+        ensures { λ r. ⌜ recordIn r ≡ recordAs self ⌝ }
+    {
+        Run {
+            answer: self.answer as u8,
+            steps: self.steps,
+            level: Level(self.level as u32),
+            opened: self.opened,
+            held: self.held as usize,
+            pending: self.pending as usize,
+            blocks: self.blocks,
+            accepted: self.accepted,
+        }
     }
 }

@@ -9,7 +9,7 @@ use choices::Found;
 ghost use mathlib.Core.Path.{_≡_};
 ghost use mathlib.Core.Bool.{true, false};
 ghost use mathlib.Core.List.{[], _∷_};
-ghost use Prim.Native.Nat.{_+_, _-_, _≤_, _<_};
+ghost use Prim.Native.Nat.{suc, _+_, _-_, _≤_, _<_};
 ghost use lib.Dec.{ltb};
 ghost use lib.ListN.{length};
 ghost use Rattle.lists.specs.Tests.{choose};
@@ -18,11 +18,11 @@ ghost use Rattle.automata.specs.Answers.{ReadAs};
 ghost use Rattle.machine.specs.Machine.{finalPending, pendingAfter, blockStep, wordOf, step as machineStep};
 ghost use Rattle.machine.specs.Lent.{roomOf, unstampedRoom, blockersFrom, blockersIn, pendingFirst};
 ghost use Rattle.machine.specs.Runs.{systemOf, stepGiven};
-ghost use Rattle.machine.specs.Records.{stepOf};
+ghost use Rattle.machine.specs.Records.{workingStep};
 ghost use Rattle.blockers.specs.Room.{Holds, HoldsRoom};
 ghost use Rattle.choices.specs.Found.{choiceOf};
 ghost use Rattle.pending.specs.Room.{Holds as HoldsWord};
-ghost use Rattle.checker.specs.Stage.{stage, choicesOf, madeBy, blockOf, Ready, leftOf, countedOf, Leaves, LeavesPending, Opened, Unpends, Extended, ClosesLevel, Pends, Countable};
+ghost use Rattle.checker.specs.Stage.{stage, wentOn, choicesOf, madeBy, blockOf, Ready, leftOf, countedOf, Leaves, LeavesPending, Opened, Unpends, Extended, ClosesLevel, Pends, Countable};
 
 // The run ends without a verdict, under the number of what it lacks: nothing stays pending.
 fn stop(cases: &mut [u64], symbols: &mut [u8], run: Run, number: u8) -> Run
@@ -329,7 +329,7 @@ fn close_level(
 
 // One step of a run that works: the allowance is tested, then the room that the step needs. A pending case is worked on first; with none, an open level
 // is closed; else a level is opened.
-pub(crate) fn step(
+fn step(
     image: &[u8],
     head: Head,
     masks: &mut [u64],
@@ -344,7 +344,7 @@ pub(crate) fn step(
 ) -> Run
     requires { ⌜ ReadAs (now image) head × Ready (stage (roomOf (now masks) (now levels) (now entered)) (now cases) (now symbols) run) ⌝ }
     ensures { λ r. ⌜ stage (roomOf (now (masks .exit)) (now (levels .exit)) (now (entered .exit))) (now (cases .exit)) (now (symbols .exit)) r
-        ≡ stepOf (now (image .entry)) (stepGiven (now (image .entry)) (now (hints .entry)) allowance way) (stage (roomOf (now (masks .entry)) (now (levels .entry)) (now (entered .entry))) (now (cases .entry)) (now (symbols .entry)) run) ⌝ }
+        ≡ workingStep (now (image .entry)) (stepGiven (now (image .entry)) (now (hints .entry)) allowance way) (stage (roomOf (now (masks .entry)) (now (levels .entry)) (now (entered .entry))) (now (cases .entry)) (now (symbols .entry)) run) ⌝ }
 {
     if allowance <= run.steps {
         return stop(cases, symbols, run, 2);
@@ -367,4 +367,47 @@ pub(crate) fn step(
         return close_level(image, head, masks, levels, entered, run);
     }
     open_level(head, masks, levels, cases, symbols, run)
+}
+
+// A run goes on: by one step, and while it works by up to `more` further ones. One that does not work stays as it is.
+pub(crate) fn go_on(
+    image: &[u8],
+    head: Head,
+    masks: &mut [u64],
+    levels: &mut [u32],
+    entered: &mut [u64],
+    cases: &mut [u64],
+    symbols: &mut [u8],
+    hints: &[u64],
+    run: Run,
+    allowance: u64,
+    way: u64,
+    more: u64,
+) -> Run
+    requires { ⌜ ReadAs (now image) head × (run .answer ≡ 6 → Ready (stage (roomOf (now masks) (now levels) (now entered)) (now cases) (now symbols) run)) ⌝ }
+    ensures { λ r. ⌜ stage (roomOf (now (masks .exit)) (now (levels .exit)) (now (entered .exit))) (now (cases .exit)) (now (symbols .exit)) r
+        ≡ wentOn (now (image .entry)) (stepGiven (now (image .entry)) (now (hints .entry)) allowance way) (suc more) (stage (roomOf (now (masks .entry)) (now (levels .entry)) (now (entered .entry))) (now (cases .entry)) (now (symbols .entry)) run) ⌝ }
+{
+    let mut next = run;
+    let mut left = more;
+    while next.answer == 6 {
+        next = step(
+            image,
+            head,
+            masks,
+            levels,
+            entered,
+            cases,
+            symbols,
+            hints,
+            next,
+            allowance,
+            way,
+        );
+        if left == 0 {
+            return next;
+        }
+        left -= 1;
+    }
+    next
 }

@@ -2,4 +2,5 @@
 pub mod Heads
 pub mod Prints
 pub mod Runs
+pub mod Calls
 pub mod Reasons

@@ -1,13 +1,17 @@
--- What the C interface gives back: for a run 01's number, the counts beside it, and the lent tables; for a reason its number and two values; for bytes the
--- number, the length and the room.
+-- What the C interface gives back: for a run 01's number, the counts beside it, and the lent tables; for begin and step the number, the record and the lent
+-- tables; for a reason its number and two values; for bytes the number, the length and the room.
 -- Assumes nothing: these are definitions.
 use Prim.Native.Nat.{ℕ}
 use mathlib.Core.Path.{_≡_}
 use mathlib.Core.List.{List, [], _∷_}
+use lib.Dec.{eqb, ltb}
+use lib.ListN.{getD}
+use Rattle.lists.specs.Tests.{_and_, neg, choose}
 use Rattle.writing.specs.Rooms.{Answer}
 use Rattle.machine.specs.Lent.{BlockerRoom}
 use Rattle.machine.specs.Why.{Reason, byBlocker, byStart, nothing}
 use Rattle.machine.specs.Runs.{Result}
+use Rattle.machine.specs.Records.{RunRecord, Called}
 use Rattle.checker.specs.Stage.{lentOf}
 
 -- steps, level, blockers held and hints accepted of a run's result
@@ -19,6 +23,42 @@ pub record Ran (number : ℕ) (counts : List ℕ) (room : BlockerRoom) (cases sy
   pub numbered : number ≡ result .number
   pub counted : counts ≡ countsOf result
   pub tables : lentOf room cases symbols ≡ result .tables
+
+-- a record as eight numbers, in 02's order: 1 where the level is open, else 0
+unfoldable pub numbersOf : RunRecord → List ℕ
+numbersOf run =
+    run .answer ∷ run .steps ∷ run .level ∷ choose (run .isOpen) 1 0 ∷ run .held ∷ run .pending ∷ run .blocks ∷ run .accepted ∷ []
+
+-- the record of eight numbers: the level is open by every number but 0
+abbrev pub recordFrom : List ℕ → RunRecord
+recordFrom numbers = record {
+  answer = getD numbers 0 0;
+  steps = getD numbers 1 0;
+  level = getD numbers 2 0;
+  isOpen = neg (eqb (getD numbers 3 0) 0);
+  held = getD numbers 4 0;
+  pending = getD numbers 5 0;
+  blocks = getD numbers 6 0;
+  accepted = getD numbers 7 0;
+}
+
+-- the eight numbers after a call of this number that left this record: where it made a step, since the record worked and no check refused it, those of the record;
+-- else as they were, whatever number stood for open
+unfoldable pub numbersAfter : List ℕ → ℕ → RunRecord → List ℕ
+numbersAfter before number run = choose (eqb (getD before 0 0) 6 and ltb number 20) (numbersOf run) before
+
+-- what a call gave back is this: its number, these eight numbers, and what each table holds
+pub record Gave (number : ℕ) (numbers expected : List ℕ) (room : BlockerRoom) (cases symbols : List ℕ) (called : Called) : Type 0 where
+  pub numbered : number ≡ called .number
+  pub recorded : numbers ≡ expected
+  pub tables : lentOf room cases symbols ≡ called .left .tables
+
+abbrev pub BeginGave : ℕ → List ℕ → BlockerRoom → List ℕ → List ℕ → Called → Type 0
+BeginGave number numbers room cases symbols called = Gave number numbers (numbersOf (called .left .run)) room cases symbols called
+
+abbrev pub StepGave : List ℕ → ℕ → List ℕ → BlockerRoom → List ℕ → List ℕ → Called → Type 0
+StepGave before number numbers room cases symbols called =
+    Gave number numbers (numbersAfter before (called .number) (called .left .run)) room cases symbols called
 
 -- which reason it is, and its values: a blocker's place and level, or a state and 0
 unfoldable pub reasonNumber : Reason → ℕ

@@ -2,6 +2,8 @@
 use automata::image::Image;
 use blockers::Level;
 use blockers::reasons::Reason;
+use checker::calls::Called;
+use checker::record::Record;
 ghost use mathlib.Core.Path.{_≡_};
 ghost use Rattle.automata.specs.Answers.{readImage, imageNumber, headAfter};
 ghost use Rattle.automata.specs.WordTest.{wordTest};
@@ -9,8 +11,10 @@ ghost use Rattle.machine.specs.Print.{printRun};
 ghost use Rattle.machine.specs.Lent.{roomOf, blockersIn};
 ghost use Rattle.machine.specs.Why.{why};
 ghost use Rattle.machine.specs.Runs.{runOf};
+ghost use Rattle.machine.specs.Records.{beginOf, stepOf};
 ghost use Rattle.checker.specs.Stage.{lentOf, termsOf};
-ghost use Rattle.exports.specs.Interface.{Wrote, Ran, Told};
+ghost use Rattle.checker.specs.Calls.{recordAs};
+ghost use Rattle.exports.specs.Interface.{Wrote, Ran, Told, numbersOf, recordFrom, numbersAfter, BeginGave, StepGave};
 
 // 0, and n, k, m, I and F in `head`; or the refusing number, and `head` as it was.
 #[no_mangle]
@@ -94,6 +98,124 @@ pub extern "C" fn afa_run(
         made.accepted,
     ];
     made.number
+}
+
+// The eight numbers of a record.
+fn numbers_of(left: Record) -> [u64; 8]
+    ensures { λ r. ⌜ r ≡ numbersOf (recordAs left) ⌝ }
+{
+    let mut open: u64 = 0;
+    if left.opened {
+        open = 1;
+    }
+    [
+        left.answer,
+        left.steps,
+        left.level,
+        open,
+        left.held,
+        left.pending,
+        left.blocks,
+        left.accepted,
+    ]
+}
+
+// The record of eight numbers.
+fn record_from(numbers: [u64; 8]) -> Record
+    ensures { λ r. ⌜ recordAs r ≡ recordFrom numbers ⌝ }
+{
+    Record {
+        answer: numbers[0],
+        steps: numbers[1],
+        level: numbers[2],
+        opened: numbers[3] != 0,
+        held: numbers[4],
+        pending: numbers[5],
+        blocks: numbers[6],
+        accepted: numbers[7],
+    }
+}
+
+// The eight numbers after a step: as they were, unless it was made.
+fn numbers_after(before: [u64; 8], called: Called) -> [u64; 8]
+    ensures { λ r. ⌜ r ≡ numbersAfter before (called .number) (recordAs (called .left)) ⌝ }
+{
+    if before[0] != 6 {
+        return before;
+    }
+    if 20 <= called.number {
+        return before;
+    }
+    numbers_of(called.left)
+}
+
+// Begins a run, which afa_step then makes step by step: the record's answer, with the record in `numbers`. A refused begin leaves its tables as they were, and
+// gives its number and seven zeros.
+#[no_mangle]
+pub extern "C" fn afa_begin(
+    image: &[u8],
+    masks: &mut [u64],
+    levels: &mut [u32],
+    entered: &mut [u64],
+    cases: &mut [u64],
+    symbols: &mut [u8],
+    hints: &[u64],
+    edition: u64,
+    way: u64,
+    numbers: &mut [u64; 8],
+) -> u64
+    ensures { λ r. ⌜ BeginGave r (now (numbers .exit)) (roomOf (now (masks .exit)) (now (levels .exit)) (now (entered .exit))) (now (cases .exit)) (now (symbols .exit))
+        (beginOf (now (image .entry)) (lentOf (roomOf (now (masks .entry)) (now (levels .entry)) (now (entered .entry))) (now (cases .entry)) (now (symbols .entry))) (termsOf (now (hints .entry)) 0 edition way)) ⌝ }
+{
+    let left = checker::calls::begin(
+        image,
+        masks,
+        levels,
+        entered,
+        cases,
+        symbols,
+        hints,
+        edition,
+        way,
+    );
+    *numbers = numbers_of(left);
+    left.answer
+}
+
+// Makes one step of the run whose record is in `numbers`: the record's answer then, or the number that refuses the step, with record and tables as they were.
+#[no_mangle]
+pub extern "C" fn afa_step(
+    image: &[u8],
+    masks: &mut [u64],
+    levels: &mut [u32],
+    entered: &mut [u64],
+    cases: &mut [u64],
+    symbols: &mut [u8],
+    hints: &[u64],
+    allowance: u64,
+    edition: u64,
+    way: u64,
+    numbers: &mut [u64; 8],
+) -> u64
+    ensures { λ r. ⌜ StepGave (now (numbers .entry)) r (now (numbers .exit)) (roomOf (now (masks .exit)) (now (levels .exit)) (now (entered .exit))) (now (cases .exit)) (now (symbols .exit))
+        (stepOf (now (image .entry)) (termsOf (now (hints .entry)) allowance edition way) (record { tables = lentOf (roomOf (now (masks .entry)) (now (levels .entry)) (now (entered .entry))) (now (cases .entry)) (now (symbols .entry)); run = recordFrom (now (numbers .entry)) })) ⌝ }
+{
+    let before = *numbers;
+    let called = checker::calls::step(
+        image,
+        masks,
+        levels,
+        entered,
+        cases,
+        symbols,
+        hints,
+        allowance,
+        edition,
+        way,
+        record_from(before),
+    );
+    *numbers = numbers_after(before, called);
+    called.number
 }
 
 // Why the case is blocked at the level: 1 with the place and the level of the first covering blocker in `found`, or 2 with the lowest initial state absent

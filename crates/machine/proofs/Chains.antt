@@ -17,16 +17,16 @@ use Rattle.masks.specs.Sets.{subset}
 use Rattle.machine.specs.System.{System}
 use Rattle.machine.specs.Machine.{Configuration, Given, Rooms, beginning, Step, step}
 use Rattle.machine.specs.Machine.{Next, goesOn, ends, comesTo, judge, advance, chain, startAnswer, start, begin, Outcome, nonempty, startsFinal}
-use Rattle.machine.specs.Meaning.{Lacks}
+use Rattle.machine.specs.Meaning.{Lacks, EndedBy, raise, Raised, raisedNone, raisedOne}
 use Rattle.machine.proofs.Language.{accepts, Lawful, Sound, Decided, decidedNonempty, decidedAtStart, IsVerdict, AnswersStart}
 use Rattle.machine.proofs.Steps.{Judged, roomToOpen, extended, roomToBlock, closed, found, emptied, noRoomToOpen, noRoomToBlock}
-use Rattle.machine.proofs.Steps.{Advanced, tried, spent, advanced, advanced-counts, advance-made, EndingCall, raise, step-raised}
+use Rattle.machine.proofs.Steps.{Advanced, tried, spent, advanced, advanced-counts, advance-made, EndingCall, step-raised}
 use Rattle.machine.proofs.Steps.{chain-keeps, ended-stays, chain-ended-by, works-or-ended, works-once, ends-once, madeBy, step-counts}
 use Rattle.machine.proofs.Invariant.{FinalsClear, beginning-holds}
 use Rattle.machine.proofs.Verdicts.{Holds, RightAnswer, clear-finals, start-accepts, clear-start, start-found, advanced-right}
 use Rattle.machine.proofs.Standing.{Counted, advanced-counted, beginning-counted}
 use Rattle.machine.proofs.Entering.{Stamped, advanced-stamped, beginning-stamped}
-use Rattle.machine.proofs.Bound.{Bounded, advanced-bounded, advanced-decided, beginning-bounded}
+use Rattle.machine.proofs.Bound.{Bounded, advanced-bounded, working-few, advanced-decided, beginning-bounded}
 
 -- what holds of a run that works
 pub record Working (S : System) (rooms : Rooms) (c : Configuration) : Type 0 where
@@ -251,6 +251,13 @@ module _ (S : System) (lawful : Lawful S) (rooms : Rooms) (edition : ℕ) where
   pub chain-working : {c : Configuration} (given : List Given) → AllSound S given → chain S rooms (begin S edition) given ≡ goesOn c → Working S rooms c
   chain-working given sound e = subst (Sure S rooms edition) e (chain-sure given sound)
 
+  -- it works no more once 4^(n+1) calls were made, whatever the rooms and the allowances
+  pub working-calls : {c : Configuration} (given : List Given) → AllSound S given → chain S rooms (begin S edition) given ≡ goesOn c
+      → length given < 4 ^ suc (S .states)
+  working-calls given sound e =
+      let w = chain-working given sound e in
+      omega (arith, working-steps S rooms edition given e, working-few lawful (w .holds) (w .bounded))
+
   pub chain-done : {outcome : Outcome} (given : List Given) → AllSound S given → chain S rooms (begin S edition) given ≡ ends outcome
       → Done S rooms edition outcome
   chain-done given sound e = subst (Sure S rooms edition) e (chain-sure given sound)
@@ -262,6 +269,26 @@ module _ (S : System) (lawful : Lawful S) (rooms : Rooms) (edition : ℕ) where
       chain-working (by .before)
       (λ g m. ended-each S rooms (λ x. Sound S (x .grow)) sound by g (in-left (by .last ∷ by .later) m))
       (by .reached)
+
+  -- a chain that works no more ended at its start, or by the call that found the machine so: without a verdict, lacking something
+  pub chain-ended : {outcome : Outcome} (given : List Given) → AllSound S given → chain S rooms (begin S edition) given ≡ ends outcome
+      → (begin S edition ≡ ends outcome) ⊎ EndedBy S rooms edition given outcome
+  chain-ended {outcome} given sound e = at (chain-ended-by S rooms (begin S edition) given e)
+    where
+      at : (begin S edition ≡ ends outcome) ⊎ EndingCall S rooms (begin S edition) given outcome
+          → (begin S edition ≡ ends outcome) ⊎ EndedBy S rooms edition given outcome
+      at (inl q) = inl q
+      at (inr by) = inr (record {
+        before = by .before;
+        last = by .last;
+        later = by .later;
+        at = by .at;
+        split = by .split;
+        works = by .reached;
+        counted = working-steps S rooms edition (by .before) (by .reached);
+        ended = by .ended;
+        lacks = advanced-lacks S rooms (ended-working sound by .counted) (ended-advanced S rooms by);
+      })
 
   -- with 2^n places in either room and no allowance under 4^(n+1), a chain that works no more has a verdict, after at most 4^(n+1) steps
   pub chain-decided : 2 ^ S .states ≤ rooms .blockers → 2 ^ S .states ≤ rooms .word → {outcome : Outcome} (given : List Given) → AllSound S given
@@ -275,12 +302,6 @@ module _ (S : System) (lawful : Lawful S) (rooms : Rooms) (edition : ℕ) where
           let w = ended-working sound by in
           advanced-decided lawful rooms places levels (w .clear) (ended-last S rooms (λ g. Sound S (g .grow)) sound by)
           (ended-last S rooms (λ g. 4 ^ suc (S .states) ≤ g .allowance) enough by) (w .holds) (w .bounded) (ended-advanced S rooms by)
-
--- the calls of another chain grow alike and have the same hints, and no smaller allowance
-pub data Raised : List Given → List Given → Type 0 where
-  raisedNone : Raised [] []
-  raisedMore : {given : Given} {more : ℕ} {later later′ : List Given} → given .allowance ≤ more → Raised later later′
-      → Raised (given ∷ later) (raise more given ∷ later′)
 
 -- what came in smaller rooms with smaller allowances comes in larger ones, unless the smaller ones lack steps or a place
 abbrev Stays : Next → Next → Type 0
@@ -316,12 +337,13 @@ module _ (S : System) (rooms rooms′ : Rooms) (more-blockers : rooms .blockers 
       (advanced-stays given more l c (advanced S rooms given c))
   call-stays given more l (ends outcome) larger st = λ v. ap (advance S rooms′ (raise more given)) (st v)
 
-  chain-stays : {given given′ : List Given} → Raised given given′ → (n larger : Next) → Stays n larger
-      → Stays (chain S rooms n given) (chain S rooms′ larger given′)
+  chain-stays : {given given′ : List Given} {outcome : Outcome} → Raised given given′ → IsVerdict outcome → (n larger : Next) → Stays n larger
+      → chain S rooms n given ≡ ends outcome → chain S rooms′ larger given′ ≡ ends outcome
   unfolding chain
-  chain-stays raisedNone n larger st = st
-  chain-stays (raisedMore {given = given} {more = more} l raised) n larger st =
-      chain-stays raised (advance S rooms given n) (advance S rooms′ (raise more given) larger) (call-stays given more l n larger st)
+  chain-stays (raisedNone {more = more}) v n larger st e =
+      ap (λ (m : Next). chain S rooms′ m more) (subst (λ (m : Next). Stays m larger) e st v) ∙ ended-stays S rooms′ _ more
+  chain-stays (raisedOne {given = given} {allowance = more} l raised) v n larger st e =
+      chain-stays raised v (advance S rooms given n) (advance S rooms′ (raise more given) larger) (call-stays given more l n larger st) e
 
   stays-same : (n : Next) → Stays n n
   stays-same (goesOn c) = refl
@@ -330,12 +352,4 @@ module _ (S : System) (rooms rooms′ : Rooms) (more-blockers : rooms .blockers 
   -- larger rooms and larger allowances do not change a verdict
   pub chain-verdict-stays : (edition : ℕ) {given given′ : List Given} {outcome : Outcome} → Raised given given′ → IsVerdict outcome
       → chain S rooms (begin S edition) given ≡ ends outcome → chain S rooms′ (begin S edition) given′ ≡ ends outcome
-  chain-verdict-stays edition {given} {given′} raised v e =
-      subst (λ (n : Next). Stays n (chain S rooms′ (begin S edition) given′)) e
-      (chain-stays raised (begin S edition) (begin S edition) (stays-same (begin S edition))) v
-
--- one chain after another is one chain
-pub chain-joined : (S : System) (rooms : Rooms) (n : Next) (given later : List Given) → chain S rooms n (given ++ later) ≡ chain S rooms (chain S rooms n given) later
-unfolding chain
-chain-joined S rooms n [] later = refl
-chain-joined S rooms n (given ∷ rest) later = chain-joined S rooms (advance S rooms given n) rest later
+  chain-verdict-stays edition raised v e = chain-stays raised v (begin S edition) (begin S edition) (stays-same (begin S edition)) e

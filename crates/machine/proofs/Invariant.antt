@@ -1,6 +1,6 @@
 -- What holds of each configuration of a run: its table, that its pending cases form a chain from a final case down, none of them blocked at its
 -- level, and that every final case is blocked below N, and at N where nothing is pending. Each step keeps it. Assumes nothing.
-use Prim.Native.Nat.{ℕ, zero, suc, _+_, _-_, _≤_, _<_}
+use Prim.Native.Nat.{ℕ, suc, _+_, _-_, _≤_, _<_}
 use mathlib.Core.Path.{_≡_, refl, sym, ap, _∙_}
 use mathlib.Core.Bool.{Bool, true, false}
 use mathlib.Core.List.{List, [], _∷_, _++_, append-nil, cons≢nil}
@@ -22,7 +22,7 @@ use Rattle.machine.proofs.Language.{takenBack, Word, Lawful}
 use Rattle.machine.proofs.Tables.{Covered, Blocked, byInitial, blocked-means, means-blocked, covered-lower, covered-blocked, blocked-lower}
 use Rattle.machine.proofs.Tables.{Stands, blocked-stays-blocked}
 use Rattle.machine.proofs.Rising.{Kept, Grown, Enters, placed, placed-new, placed-from, entered-grown, levels-grown}
-use Rattle.machine.proofs.Passing.{Passes, Held, qualified-free}
+use Rattle.machine.proofs.Passing.{Passes, Held, qualified-free, qualified-above}
 
 -- where the case before `rest` comes from: it is a final case, or the backward set by its symbol of the first case of `rest`
 pub data Comes (S : System) (p : Pending) : List Pending → Type 0 where
@@ -143,6 +143,21 @@ finals-wait S table N (F ∷ finals) = at (blocked (S .initial) table N F) refl 
         → Waiting S table N (F ∷ finals) (choose b (finalPending (S .initial) finals table N) (record { case = F; symbol = 0 } ∷ []))
     at true e w = later (blocked-means S table N F (holds e)) w
     at false e w = oneWaits F (here refl) (λ b. fails e (means-blocked b))
+
+-- so at most one becomes pending
+pub finals-few : (S : System) (table : List Blocker) (N : ℕ) → length (finalPending (S .initial) (S .finals) table N) ≤ 1
+finals-few S table N = at (finals-wait S table N (S .finals))
+  where
+    at : {pending : List Pending} → Waiting S table N (S .finals) pending → length pending ≤ 1
+    at (noneWaits all) = omega arith
+    at (oneWaits F m f) = omega arith
+
+-- and what is pending after a block is no more than there are levels, as it was before
+pub after-few : (S : System) (table : List Blocker) (N : ℕ) (rest : List Pending) → length rest < N
+    → length (pendingAfter (S .initial) (S .finals) table N rest) ≤ N
+unfolding pendingAfter
+after-few S table N [] l = omega (arith, finals-few S table N)
+after-few S table N (p ∷ rest) l = omega arith
 
 -- where no final case becomes pending, all are blocked
 finals-done : {S : System} (table : List Blocker) (N : ℕ) → finalPending (S .initial) (S .finals) table N ≡ [] → FinalsBlocked S table N
@@ -295,14 +310,10 @@ module _ {S : System} (lawful : Lawful S) (finalsClear : FinalsClear S) where
         unblocked : Blocked S table below (S .backward s (p .case)) → ⊥
         unblocked = qualified-free S table below (p .case) s t
 
-        positive : (i : ℕ) → (Blocked S table i (S .backward s (p .case)) → ⊥) → 1 ≤ i
-        positive zero f = absurd (f (byInitial clear))
-        positive (suc i) f = omega arith
-
         waits : Waits S table N (record { case = S .backward s (p .case); symbol = s }) (p ∷ rest)
         waits = record {
           comes = backward l refl;
-          high = omega (arith, positive below unblocked, chain-lowest (inv .chain) .high);
+          high = omega (arith, qualified-above S table below (p .case) s t clear, chain-lowest (inv .chain) .high);
           free = λ i h c. unblocked (covered-blocked (inv .kept .stands) below (covered-lower (omega arith) (subset-reflexive _) c));
           clear = clear;
           inside = lawful .backward-within s (p .case) l;

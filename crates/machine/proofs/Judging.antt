@@ -1,28 +1,29 @@
--- A run that has ended keeps the rules by which it is judged, from what holds of its outcome.
+-- A run that has ended keeps the rules by which it is judged, from what holds of its outcome; whatever its calls were given, at once or step by step.
 -- Assumes nothing.
-use Prim.Native.Nat.{ℕ, _-_, _≤_, _<_}
+use Prim.Native.Nat.{ℕ, suc, _-_, _^_, _≤_, _<_}
 use mathlib.Core.Path.{_≡_, refl, sym, ap, subst, _∙_}
 use mathlib.Core.List.{List, [], _∷_, _++_}
 use mathlib.Core.Logic.{_↔_, inl, inr}
 use native.Mathlib.Omega.{arith}
 use lib.Dec.{T}
 use lib.ListN.{length, replicate}
+use Rattle.lists.specs.Lists.{Each}
 use Rattle.lists.proofs.Lists.{in-none}
-use Rattle.automata.specs.Image.{Valid}
+use Rattle.automata.specs.Image.{Valid, statesOf}
 use Rattle.automata.specs.Automaton.{automatonOf, HoldOne}
 use Rattle.automata.specs.Acceptance.{Accepted}
 use Rattle.machine.specs.System.{System}
-use Rattle.machine.specs.Machine.{Blocker, Configuration, Rooms, beginning, Next, ends, comesTo}
+use Rattle.machine.specs.Machine.{Blocker, Configuration, Given, Rooms, beginning, Next, ends, comesTo, chain, begin}
 use Rattle.machine.specs.Machine.{Outcome, nonempty, empty, stepsLack, blockersLack, wordLacks, startsFinal}
 use Rattle.machine.specs.Meaning.{Closed, EnteredInOrder}
 use Rattle.machine.specs.Lent.{BlockerRoom, EvenRoom, column, placed, eachTable, withTable}
 use Rattle.machine.specs.Runs.{Lent, zeroed, Result, systemOf, roomsOf, refused, numberOf, casesIn, symbolsIn, tablesAfter, resultOf}
-use Rattle.machine.specs.Promises.{heldBy, Alone, WordFound, Rules, Verdict, Agreed}
+use Rattle.machine.specs.Promises.{heldBy, Alone, WordFound, Rules, RunEnded, Verdict, Decides, Agreed}
 use Rattle.machine.proofs.Language.{IsVerdict, Word, accepts, Lawful, Agree, both-nonempty, both-empty, both-at-start}
 use Rattle.machine.proofs.Language.{Decided, decidedNonempty, decidedEmpty, decidedAtStart}
 use Rattle.machine.proofs.Verdicts.{RightAnswer, closed-none}
 use Rattle.machine.proofs.Entering.{Stamped}
-use Rattle.machine.proofs.Chains.{Done}
+use Rattle.machine.proofs.Chains.{Done, AllSound, chain-done, chain-ended, chain-decided, chain-verdict-stays}
 use Rattle.machine.proofs.Agreeing.{right-verdicts-agree}
 use Rattle.machine.proofs.LentTables.{tables-even, column-whole, placed-whole, placed-none, read-back}
 use Rattle.machine.proofs.Images.{image-lawful, accepted-by-runs, same-language}
@@ -36,6 +37,16 @@ number-low (stepsLack c) = omega arith
 number-low (blockersLack c) = omega arith
 number-low (wordLacks c) = omega arith
 number-low startsFinal = omega arith
+
+-- an end leaves no symbols but those of a word that was found
+pub wordless : (o : Outcome) → (numberOf (ends o) ≡ 1 → ⊥) → symbolsIn (ends o) ≡ []
+unfolding numberOf symbolsIn
+wordless (nonempty word c) n = absurd (n refl)
+wordless (empty c) n = refl
+wordless (stepsLack c) n = refl
+wordless (blockersLack c) n = refl
+wordless (wordLacks c) n = refl
+wordless startsFinal n = refl
 
 -- lent tables of a room are equally long
 pub record Even (lent : Lent) : Type 0 where
@@ -157,15 +168,6 @@ module _ (image : List ℕ) (lent : Lent) (edition : ℕ) (valid : Valid image) 
   none-accepted : (o : Outcome) → Done (systemOf image) (roomsOf lent) edition o → numberOf (ends o) ≡ 0 → (word : List ℕ) → Accepted (automatonOf image) word → ⊥
   none-accepted o d e word a = let h = means word a in closed-none (systemOf image) lawful _ (closed-frame o d e) word (h .0) (h .1)
 
-  wordless : (o : Outcome) → (numberOf (ends o) ≡ 1 → ⊥) → symbolsIn (ends o) ≡ []
-  unfolding numberOf symbolsIn
-  wordless (nonempty word c) n = absurd (n refl)
-  wordless (empty c) n = refl
-  wordless (stepsLack c) n = refl
-  wordless (blockersLack c) n = refl
-  wordless (wordLacks c) n = refl
-  wordless startsFinal n = refl
-
   leaves-symbols : (o : Outcome) → (numberOf (ends o) ≡ 1 → ⊥) → resultOf lent (ends o) .tables .symbols ≡ replicate (length (lent .symbols)) 0
   unfolding resultOf tablesAfter
   leaves-symbols o n = rw (wordless o n) (no-symbols lent even)
@@ -252,20 +254,48 @@ module _ (image other : List ℕ) (lent lent′ : Lent) (edition : ℕ) where
       o o′ (verdict-number edition lent o v) (verdict-number edition lent′ o′ v′) (d .right) (d′ .right) (d .start) (d′ .start))
 
 -- a verdict within a bound: that it is one, the number that it shows, and its steps
-pub decided-verdict : {most : ℕ} {o : Outcome} → Decided most o → IsVerdict o
+decided-verdict : {most : ℕ} {o : Outcome} → Decided most o → IsVerdict o
 decided-verdict (decidedNonempty l) = tt
 decided-verdict (decidedEmpty l) = tt
 decided-verdict decidedAtStart = tt
 
-pub decided-number : (lent : Lent) {S : System} {rooms : Rooms} {edition most : ℕ} {o : Outcome} → Done S rooms edition o → Decided most o
+decided-number : (lent : Lent) {S : System} {rooms : Rooms} {edition most : ℕ} {o : Outcome} → Done S rooms edition o → Decided most o
     → Verdict edition (resultOf lent (ends o) .number)
 unfolding resultOf numberOf
 decided-number lent d (decidedNonempty l) = inl (omega arith)
 decided-number lent d (decidedEmpty l) = inl (omega arith)
 decided-number lent d decidedAtStart = inr (d .right .0, refl)
 
-pub decided-in-time : {most : ℕ} {o : Outcome} → Decided most o → comesTo (ends o) .steps ≤ most
-unfolding beginning
-decided-in-time (decidedNonempty l) = l
-decided-in-time (decidedEmpty l) = l
-decided-in-time decidedAtStart = omega arith
+decided-in-time : (lent : Lent) {most : ℕ} {o : Outcome} → Decided most o → resultOf lent (ends o) .steps ≤ most
+unfolding resultOf beginning
+decided-in-time lent (decidedNonempty l) = l
+decided-in-time lent (decidedEmpty l) = l
+decided-in-time lent decidedAtStart = omega arith
+
+-- a run that was begun in this edition and called so has ended, and r is its result
+module _ (image : List ℕ) (lent : Lent) (edition : ℕ) (valid : Valid image) (even : Even lent) {calls : List Given} (sound : AllSound (systemOf image) calls)
+    {o : Outcome} (is : chain (systemOf image) (roomsOf lent) (begin (systemOf image) edition) calls ≡ ends o) {r : Result} (shows : r ≡ resultOf lent (ends o))
+  where
+    pub ended-done : Done (systemOf image) (roomsOf lent) edition o
+    ended-done = chain-done (systemOf image) (lawful image lent edition valid even) (roomsOf lent) edition calls sound is
+
+    pub ended-rules : Rules image lent edition r
+    ended-rules = subst (Rules image lent edition) (sym shows) (rules image lent edition valid even o ended-done)
+
+    pub ended-how : RunEnded image lent edition calls r
+    ended-how = record {
+      outcome = o;
+      shows = shows;
+      how = chain-ended (systemOf image) (lawful image lent edition valid even) (roomsOf lent) edition calls sound is;
+    }
+
+    pub ended-decides : 2 ^ statesOf image ≤ length (lent .room .masks) → 2 ^ statesOf image ≤ length (lent .cases)
+        → Each (λ given. 4 ^ suc (statesOf image) ≤ given .allowance) calls → Decides image lent edition calls (4 ^ suc (statesOf image)) r
+    ended-decides places levels enough =
+        let decided = chain-decided (systemOf image) (lawful image lent edition valid even) (roomsOf lent) edition places levels calls sound enough is in
+        subst (Decides image lent edition calls (4 ^ suc (statesOf image))) (sym shows) (record {
+          verdict = decided-number lent ended-done decided;
+          in-time = decided-in-time lent decided;
+          unbounded = λ rooms raised b w larger.
+              ap (resultOf lent) (sym (chain-verdict-stays (systemOf image) (roomsOf lent) rooms b w edition larger (decided-verdict decided) is));
+        })

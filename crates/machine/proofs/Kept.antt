@@ -4,7 +4,8 @@ use Rattle.machine.specs.Promises.{Promises}
 use Rattle.automata.proofs.Reading.{reading-refused, reading-refused-values, reading-valid, reading-valid-values}
 use Rattle.writing.proofs.Decimals.{digits-one, digits-decimal}
 use Rattle.machine.proofs.WordTests.{refuses-image, refuses-symbol, says-yes, says-no, same-answer}
-use Rattle.machine.proofs.RunsKept.{run-promises, runs-agree, editions-agree, block-unpends, blocked-passes, entered-in-order}
+use Rattle.machine.proofs.RunsKept.{run-promises, editions-agree, block-unpends, blocked-passes, entered-in-order}
+use Rattle.machine.proofs.StepsKept.{begin-promises, step-promises, steps-promises, run-is-steps, runs-agree}
 use Rattle.machine.proofs.Reasons.{why-tells}
 use Rattle.machine.proofs.Greedy.{picks-most}
 use Rattle.machine.proofs.Counted.{counts-once}
@@ -25,6 +26,10 @@ kept = record {
   word-test-no = says-no;
   word-test-same = same-answer;
   runs = run-promises;
+  begins = begin-promises;
+  steps = step-promises;
+  by-steps = steps-promises;
+  run-is-steps = run-is-steps;
   runs-agree = runs-agree;
   editions-agree = editions-agree;
   block-unpends = block-unpends;

@@ -1,6 +1,6 @@
 -- What stands in lent tables: new entries in place of old ones keep a table's length and are read back as they are, one change after another is one
--- change, and what is read from a table and written back changes nothing. Assumes nothing.
-use Prim.Native.Nat.{ℕ, zero, suc, _+_, _-_, _≤_, max}
+-- change, what is read from a table and written back changes nothing, and what no entry is put over stays. Assumes nothing.
+use Prim.Native.Nat.{ℕ, zero, suc, _+_, _-_, _≤_, _<_, max}
 use mathlib.Core.Path.{_≡_, refl, sym, ap, _∙_}
 use mathlib.Core.List.{List, [], _∷_, _++_, append-nil, append-assoc}
 use native.Mathlib.Nat.{sub-zero}
@@ -18,7 +18,7 @@ use lib.ListN.{
   replicate-append-replicate,
   take-append-drop,
 }
-use lib.Seq.{take-suc, drop-drop, append-snoc, getD-at, length-take-le}
+use lib.Seq.{take-suc, drop-drop, append-snoc, getD-at, getD-drop, length-take-le}
 use Rattle.lists.specs.Lists.{_∈_, here, there, Each}
 use Rattle.lists.proofs.Lists.{in-none, each-more}
 use Rattle.machine.specs.Machine.{Blocker, Pending}
@@ -39,6 +39,7 @@ use Rattle.machine.specs.Lent.{
   eachTable,
   withTable,
 }
+use Rattle.machine.specs.Promises.{Changed}
 
 -- as many blockers are read as are asked for
 pub blockers-length : (room : BlockerRoom) (count at : ℕ) → length (blockersFrom room count at) ≡ count
@@ -316,3 +317,32 @@ pub placed-again : (old : ℕ) (first second before : List ℕ) → length first
 placed-again old first second before h =
     let most : max old (length first) ≡ old = omega arith in
     placed-placed old (length first) first second before (omega arith) ∙ ap (λ (n : ℕ). placed n second before) most
+
+-- what stands at a place is the first of what is left from there
+first-left : (i : ℕ) (l : List ℕ) → getD (drop i l) 0 0 ≡ getD l i 0
+first-left i l = let at : i + 0 ≡ i = omega arith in getD-drop i l 0 0 ∙ ap (λ (k : ℕ). getD l k 0) at
+
+-- what stands at a place behind the new entries: 0 where it became free, else what stood there before
+behind-at : (i old : ℕ) (new before : List ℕ) → length new ≤ i → getD (placed old new before) i 0 ≡ getD (replicate (old - i) 0 ++ drop (max old i) before) 0 0
+behind-at i old new before l = sym (first-left i (placed old new before)) ∙ ap (λ (l : List ℕ). getD l 0 0) (drop-placed i old new before l)
+
+free-at : (i old : ℕ) (new before : List ℕ) → length new ≤ i → i < old → getD (placed old new before) i 0 ≡ 0
+free-at i old new before l h =
+    let some : old - i ≡ suc (old - suc i) = omega arith in
+    behind-at i old new before l ∙ rw some
+
+rest-at : (i old : ℕ) (new before : List ℕ) → length new ≤ i → old ≤ i → getD (placed old new before) i 0 ≡ getD before i 0
+rest-at i old new before l h =
+    let none : old - i ≡ 0 = omega arith in
+    let most : max old i ≡ i = omega arith in
+    behind-at i old new before l ∙ rw (none, most) (first-left i before)
+
+-- so a change leaves 0 in each place that became free, and the rest
+pub placed-changed : (old : ℕ) (new before : List ℕ) {size : ℕ} → length new ≡ size → old ≤ length before → size ≤ length before
+    → Changed old size before (placed old new before)
+placed-changed old new before long l h =
+    record {
+      long = placed-length old new before l (omega arith);
+      freed = λ i free used. free-at i old new before (omega arith) used;
+      rest = λ i past free. rest-at i old new before (omega arith) past;
+    }

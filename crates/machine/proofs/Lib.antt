@@ -12,7 +12,6 @@ pub mod Measure
 pub mod Bound
 pub mod Agreeing
 pub mod Chains
-pub mod Driving
 pub mod Unpending
 pub mod LentTables
 pub mod Unstamped
@@ -23,8 +22,10 @@ pub mod Hitting
 pub mod WordTests
 pub mod Images
 pub mod Judging
-pub mod RecordSteps
 pub mod RunsKept
+pub mod AnyRecord
+pub mod RecordSteps
+pub mod StepsKept
 pub mod Printing
 pub mod Kept
 pub mod StarredRight

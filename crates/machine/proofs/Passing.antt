@@ -16,13 +16,19 @@ use Rattle.machine.specs.System.{System}
 use Rattle.machine.specs.Machine.{Blocker, Configuration, Growth, Given, blocked, settled, qualifies, passes}
 use Rattle.machine.specs.Machine.{withState, withStates, byStates, hintAt, Choice, chosenFrom, chosen}
 use Rattle.machine.proofs.Language.{Sound}
-use Rattle.machine.proofs.Tables.{Blocked, blocked-means, means-blocked}
+use Rattle.machine.proofs.Tables.{Blocked, byInitial, blocked-means, means-blocked}
 
 -- a symbol that qualifies has a backward set that is not blocked
 pub qualified-free : (S : System) (table : List Blocker) (below X s : ℕ) → T (qualifies S table below X s)
     → Blocked S table below (S .backward s X) → ⊥
 unfolding qualifies settled
 qualified-free S table below X s t b = neg-fails _ t (or-right _ _ (means-blocked b))
+
+-- and, where that does not contain I, it does so above level 0, at which such a set is blocked
+pub qualified-above : (S : System) (table : List Blocker) (below X s : ℕ) → T (qualifies S table below X s)
+    → (T (subset (S .initial) (S .backward s X)) → ⊥) → 1 ≤ below
+qualified-above S table zero X s t clear = absurd (qualified-free S table zero X s t (byInitial clear))
+qualified-above S table (suc below) X s t clear = omega arith
 
 -- the backward set of Y by s is a subset of Y or blocked
 abbrev pub Held : System → List Blocker → ℕ → ℕ → ℕ → Type 0

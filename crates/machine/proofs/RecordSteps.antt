@@ -1,68 +1,63 @@
--- A step on the record and the rooms of a run is the machine's step: what stands there is read back as the configuration, and what the step leaves is
--- what the next configuration shows. Assumes nothing.
+-- What stands in record and tables where a run has come to a configuration: it is read back, and a step on it shows what the machine comes to by one call
+-- more. So do steps one after the other, from a begin on. Assumes nothing.
 use Prim.Native.Nat.{ℕ, _≤_}
-use mathlib.Core.Path.{_≡_, refl, sym, ap, ap₂, _∙_}
-use mathlib.Core.List.{List}
+use mathlib.Core.Path.{_≡_, refl, sym, ap, ap₂, subst, _∙_}
+use mathlib.Core.Bool.{Bool, true, false}
+use mathlib.Core.List.{List, [], _∷_, map}
 use native.Mathlib.Omega.{arith}
-use lib.ListN.{length}
+use borrow.Author.Tests.{eqb-true, eqb-false}
+use lib.Dec.{eqb}
+use lib.ListN.{length, length-replicate}
+use Rattle.lists.specs.Tests.{choose}
+use Rattle.lists.specs.Lists.{keep}
 use Rattle.machine.specs.System.{System}
-use Rattle.machine.specs.Machine.{Blocker, Configuration, Given, Rooms, Next, goesOn, comesTo, advance}
-use Rattle.machine.specs.Lent.{column, columnBack, maskOf, levelOf, enteredOf, caseOf, symbolOf, placed, withTable}
-use Rattle.machine.specs.Runs.{Lent, systemOf, roomsOf, casesIn, symbolsIn, tablesAfter}
-use Rattle.machine.specs.Records.{Stage, configurationOf, pendingOf, recordOf, after, stepOf}
-use Rattle.machine.proofs.Invariant.{chain-length}
-use Rattle.machine.proofs.Chains.{Working}
-use Rattle.machine.proofs.LentTables.{column-length, column-back-length, placed-length, placed-again, tables-same, read-back-table, read-back-placed}
-use Rattle.machine.proofs.Judging.{Even}
+use Rattle.machine.specs.Machine.{Blocker, Configuration, Given, Rooms, beginning, Next, goesOn, ends, comesTo, advance, chain, begin}
+use Rattle.machine.specs.Machine.{nonempty, startsFinal}
+use Rattle.machine.specs.Lent.{column, columnBack, caseOf, symbolOf, placed, withTable}
+use Rattle.machine.specs.Runs.{Lent, zeroed, Terms, systemOf, givenOf, roomsOf, numberOf, casesIn, symbolsIn, tablesAfter, resultOf, checkRun}
+use Rattle.machine.specs.Records.{Stage, configurationOf, pendingOf, recordOf, after, shown, workingStep, Called, stepOf, stepsFrom}
+use Rattle.machine.specs.Records.{unrefused, givenBy, resultFrom}
+use Rattle.machine.specs.Promises.{Unbroken}
+use Rattle.machine.proofs.Chains.{Begun, answered, finalAtOnce, started, begin-begun}
+use Rattle.machine.proofs.LentTables.{column-length, column-back-length, placed-again, tables-same, read-back-table, read-back-placed}
+use Rattle.machine.proofs.Judging.{Even, number-low, tables-zero}
+use Rattle.machine.proofs.AnyRecord.{SameLengths, Takes, takes-checked, room-changed, cases-changed}
+use Rattle.machine.proofs.AnyRecord.{Stepped, refused, finished, worked, stepped, stepped-refused, stepped-takes, unworked-left}
 
--- what stands in record and rooms where a run has come to n: all lent places were written
-abbrev pub shown : Lent → Next → Stage
-shown lent n = record { tables = tablesAfter (length (lent .room .masks)) (length (lent .cases)) lent n; run = recordOf n }
+-- its record and tables are a run's result
+pub shown-result : (lent : Lent) (n : Next) → resultFrom (shown lent n) ≡ resultOf lent n
+unfolding recordOf resultOf
+shown-result lent n = refl
 
 -- a configuration has its place in the lent tables
-pub record Fitting (lent : Lent) (c : Configuration) : Type 0 where
-  pub table : length (c .table) ≤ length (lent .room .masks)
-  pub pending : length (c .pending) ≤ length (lent .cases)
+record Fitting (lent : Lent) (c : Configuration) : Type 0 where
+  table : length (c .table) ≤ length (lent .room .masks)
+  pending : length (c .pending) ≤ length (lent .cases)
 
-pub working-fits : {S : System} (lent : Lent) {c : Configuration} → Working S (roomsOf lent) c → Fitting lent c
-working-fits lent w = record { table = w .counted .table-fits; pending = omega (arith, chain-length (w .holds .chain), w .counted .word-fits) }
+-- "begin .. makes the start": all places 0 are what it shows, since it has no blocker, nothing pending and no symbol of a word
+pub begin-shown : (S : System) (lent : Lent) → Even lent → (edition : ℕ) → zeroed lent ≡ shown lent (begin S edition) .tables
+unfolding casesIn symbolsIn columnBack beginning
+begin-shown S lent even edition = at (begin-begun S edition)
+  where
+    at : {n : Next} → Begun S edition n → zeroed lent ≡ shown lent n .tables
+    at (answered e f) = sym (tables-zero lent even (ends (nonempty [] beginning)) refl refl refl)
+    at (finalAtOnce e f) = sym (tables-zero lent even (ends startsFinal) refl refl refl)
+    at (started e) = sym (tables-zero lent even (goesOn beginning) refl refl refl)
 
 module _ (lent : Lent) (even : Even lent) (c : Configuration) (fit : Fitting lent c) where
-  -- the tables that it shows are as long as those that were lent
-  shown-table : (field : Blocker → ℕ) (before : List ℕ) → length (lent .room .masks) ≡ length before
-      → length (placed (length (lent .room .masks)) (column field (c .table)) before) ≡ length before
-  shown-table field before e =
-      placed-length (length (lent .room .masks)) (column field (c .table)) before (omega arith) (omega (arith, column-length field (c .table), fit .table))
-
-  pub shown-masks : length (shown lent (goesOn c) .tables .room .masks) ≡ length (lent .room .masks)
-  unfolding tablesAfter withTable
-  shown-masks = shown-table maskOf (lent .room .masks) refl
-
-  pub shown-levels : length (shown lent (goesOn c) .tables .room .levels) ≡ length (lent .room .levels)
-  unfolding tablesAfter withTable
-  shown-levels = shown-table levelOf (lent .room .levels) (even .blockers .levels)
-
-  pub shown-entered : length (shown lent (goesOn c) .tables .room .entered) ≡ length (lent .room .entered)
-  unfolding tablesAfter withTable
-  shown-entered = shown-table enteredOf (lent .room .entered) (even .blockers .entered)
-
-  pub shown-cases : length (shown lent (goesOn c) .tables .cases) ≡ length (lent .cases)
-  unfolding tablesAfter casesIn
-  shown-cases =
-      placed-length (length (lent .cases)) (columnBack caseOf (c .pending)) (lent .cases) (omega arith)
-      (omega (arith, column-back-length caseOf (c .pending), fit .pending))
-
-  pub shown-symbols : length (shown lent (goesOn c) .tables .symbols) ≡ length (lent .symbols)
-  unfolding tablesAfter symbolsIn
-  shown-symbols =
-      placed-length (length (lent .cases)) (columnBack symbolOf (c .pending)) (lent .symbols) (omega (arith, even .symbols))
-      (omega (arith, column-back-length symbolOf (c .pending), fit .pending, even .symbols))
-
+  -- the rooms are as large as those that were lent
   rooms-shown : roomsOf (shown lent (goesOn c) .tables) ≡ roomsOf lent
-  rooms-shown = rw (shown-masks, shown-cases)
+  unfolding casesIn
+  rooms-shown =
+      let held = length (lent .room .masks) in
+      let waiting = length (lent .cases) in
+      rw (
+        room-changed lent even held waiting (goesOn c) (omega arith) (fit .table) .masks .long,
+        cases-changed lent even held waiting (goesOn c) (column-back-length caseOf (c .pending)) (omega arith) (fit .pending) .long,
+      )
 
   -- what stands there is read back
-  pub read-shown : configurationOf (shown lent (goesOn c)) ≡ c
+  read-shown : configurationOf (shown lent (goesOn c)) ≡ c
   unfolding recordOf pendingOf tablesAfter casesIn symbolsIn
   read-shown =
       rw (
@@ -98,10 +93,75 @@ module _ (lent : Lent) (even : Even lent) (c : Configuration) (fit : Fitting len
       )
 
   -- a step from there shows the machine's next configuration
-  pub step-shown : (image : List ℕ) (given : Given)
-      → stepOf image given (shown lent (goesOn c)) ≡ shown lent (advance (systemOf image) (roomsOf lent) given (goesOn c))
-  unfolding stepOf
+  step-shown : (image : List ℕ) (given : Given)
+      → workingStep image given (shown lent (goesOn c)) ≡ shown lent (advance (systemOf image) (roomsOf lent) given (goesOn c))
+  unfolding workingStep
   step-shown image given =
       ap₂ (λ (rooms : Rooms) (d : Configuration). after (shown lent (goesOn c)) (advance (systemOf image) rooms given (goesOn d)))
       rooms-shown read-shown
       ∙ after-shown (advance (systemOf image) (roomsOf lent) given (goesOn c))
+
+-- what a begin shows, the first step takes
+pub begin-takes : (S : System) (lent : Lent) → Even lent → (edition : ℕ) → Takes lent (shown lent (begin S edition))
+unfolding recordOf pendingOf beginning numberOf
+begin-takes S lent even edition =
+    record {
+      same = subst (SameLengths lent) (begin-shown S lent even edition) zeros;
+      unbroken = at (begin-begun S edition);
+    }
+  where
+    zeros : SameLengths lent (zeroed lent)
+    zeros = record {
+      masks = length-replicate _ _;
+      levels = length-replicate _ _;
+      entered = length-replicate _ _;
+      cases = length-replicate _ _;
+      symbols = length-replicate _ _;
+    }
+
+    at : {n : Next} → Begun S edition n → Unbroken (roomsOf lent) (recordOf n)
+    at (answered e f) = omega arith
+    at (finalAtOnce e f) = omega arith
+    at (started e) = omega arith
+
+module _ (image : List ℕ) (lent : Lent) (even : Even lent) where
+  -- a step that is not refused shows what the machine comes to by one call more
+  call-shown : (terms : Terms) → checkRun image lent terms ≡ 0 → (n : Next) → Takes lent (shown lent n)
+      → stepOf image terms (shown lent n) .left ≡ shown lent (advance (systemOf image) (roomsOf lent) (givenOf image terms) n)
+  unfolding recordOf pendingOf numberOf advance
+  call-shown terms none (goesOn c) takes = by (stepped image terms (shown lent (goesOn c)))
+    where
+      fit : Fitting lent c
+      fit = omega (arith, takes .unbroken)
+
+      by : {called : Called} → Stepped image terms (shown lent (goesOn c)) called
+          → called .left ≡ shown lent (advance (systemOf image) (roomsOf lent) (givenOf image terms) (goesOn c))
+      by (refused f) = absurd (f (takes-checked image terms takes ∙ none))
+      by (finished e f) = absurd (f refl)
+      by (worked e six) = step-shown lent even c fit image (givenOf image terms)
+  call-shown terms none (ends o) takes = unworked-left image terms (shown lent (ends o)) (λ six. omega (arith, six, number-low o))
+
+  -- a refused one changes nothing
+  refused-leaves : (terms : Terms) → (checkRun image lent terms ≡ 0 → ⊥) → (at : Stage) → Takes lent at → stepOf image terms at .left ≡ at
+  refused-leaves terms f at takes =
+      ap (λ (called : Called). called .left) (stepped-refused (stepped image terms at) (λ e. f (sym (takes-checked image terms takes) ∙ e)))
+
+  -- "Between calls of a working run the rooms stand as 01's machine has them."
+  pub steps-shown : (at : Stage) (n : Next) → at ≡ shown lent n → Takes lent at → (steps : List Terms)
+      → stepsFrom image at steps ≡ shown lent (chain (systemOf image) (roomsOf lent) n (givenBy image lent steps))
+  unfolding stepsFrom chain unrefused keep choose
+  steps-shown at n shows takes [] = shows
+  steps-shown at n shows takes (terms ∷ later) =
+      by (λ m left. steps-shown (stepOf image terms at .left) m left (stepped-takes (stepped image terms at) takes) later)
+      (eqb (checkRun image lent terms) 0) refl
+    where
+      by : ((m : Next) → stepOf image terms at .left ≡ shown lent m
+          → stepsFrom image (stepOf image terms at .left) later ≡ shown lent (chain (systemOf image) (roomsOf lent) m (givenBy image lent later)))
+          → (b : Bool) → eqb (checkRun image lent terms) 0 ≡ b
+          → stepsFrom image (stepOf image terms at .left) later
+          ≡ shown lent (chain (systemOf image) (roomsOf lent) n
+          (map (givenOf image) (choose b (terms ∷ unrefused image lent later) (unrefused image lent later))))
+      by rec true e =
+          rec (advance (systemOf image) (roomsOf lent) (givenOf image terms) n)
+          (ap (λ (x : Stage). stepOf image terms x .left) shows ∙ call-shown terms (eqb-true _ _ e) n (subst (Takes lent) shows takes))
+      by rec false e = rec n (refused-leaves terms (eqb-false _ _ e) at takes ∙ shows)

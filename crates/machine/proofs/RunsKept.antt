@@ -1,40 +1,49 @@
 -- The promises of runs, from what is proved of the machine: a run on an image is refused, or is the machine's run on the image's system. Assumes nothing.
-use Prim.Native.Nat.{ℕ, zero, suc, _-_, _^_, _≤_, _<_}
+use Prim.Native.Nat.{ℕ, zero, suc, _-_, _^_, _≤_}
 use mathlib.Core.Path.{_≡_, refl, sym, ap, subst, _∙_}
 use mathlib.Core.Bool.{Bool, true, false}
-use mathlib.Core.List.{List, [], _∷_}
+use mathlib.Core.List.{List, [], _∷_, map}
 use mathlib.Core.Logic.{_⊎_, inl, inr}
 use native.Mathlib.Omega.{arith}
-use borrow.Author.Tests.{eqb-true, ne-eqb}
+use borrow.Author.Tests.{eqb-true, ltb-false, ne-eqb}
 use lib.Dec.{T, eqb}
 use lib.ListN.{length}
 use Rattle.lists.specs.Tests.{_or_, neg}
-use Rattle.lists.proofs.Tests.{is-true, or-left, or-right, neg-neg}
-use Rattle.lists.proofs.Lists.{in-none}
+use Rattle.lists.proofs.Tests.{is-true, is-false, or-left, or-right, neg-neg}
+use Rattle.lists.specs.Lists.{here, there, Each}
+use Rattle.lists.proofs.Lists.{in-none, each-more}
 use Rattle.automata.specs.Image.{Valid, check, checkImage, statesOf}
-use Rattle.automata.specs.Automaton.{automatonOf, HoldOne}
+use Rattle.automata.specs.Automaton.{automatonOf}
 use Rattle.automata.specs.Acceptance.{Accepted}
 use Rattle.automata.proofs.Checks.{check-number}
 use Rattle.automata.proofs.ValidImage.{check-fails}
-use Rattle.machine.specs.Machine.{Pending, Configuration, Rooms, blocks, step, passes, Next, ends, comesTo}
+use Rattle.machine.specs.Machine.{Pending, Configuration, Given, Rooms, blocks, step, passes, Next, ends, chain, begin, callsOf, machine}
 use Rattle.machine.specs.Runs.{Lent, Terms, Result, systemOf, roomsOf, refused, resultOf, oddRooms, oversize}
 use Rattle.machine.specs.Runs.{unknownEdition, unknownWay}
 use Rattle.machine.specs.Runs.{checkTerms, checkRun, givenOf, endOf, runWith, runOf}
 use Rattle.machine.specs.Meaning.{EnteredInOrder, WorksIn}
-use Rattle.machine.specs.Promises.{Refused, Rules, RunEnded, inEdition, byWay, Verdict, Decides, RunPromises, Agreed}
-use Rattle.machine.proofs.Language.{Lawful, Sound}
+use Rattle.machine.specs.Promises.{Refused, Rules, RunEnded, inEdition, byWay, Decides, RunPromises}
+use Rattle.machine.proofs.Language.{Sound}
 use Rattle.machine.proofs.Hitting.{growth-sound}
-use Rattle.machine.proofs.Chains.{Done, Ended}
-use Rattle.machine.proofs.Driving.{works-in, machine-ends, machine-done, machine-allowed, machine-ended, machine-decided, verdict-stays}
-use Rattle.machine.proofs.Driving.{machine-begins-alike}
+use Rattle.machine.proofs.Chains.{Working, AllSound, Ended, each-same, chain-working, chain-within, chain-ends, begin-alike}
 use Rattle.machine.proofs.Unpending.{grown-passes, block-leaves}
 use Rattle.machine.proofs.Images.{image-lawful, accepted-by-runs}
-use Rattle.machine.proofs.Judging.{Even, is-alone, rules, results-agree, decided-verdict, decided-number, decided-in-time}
+use Rattle.machine.proofs.Judging.{Even, is-alone, ended-rules, ended-how, ended-decides}
+
+-- what holds of what each step is given by its terms
+pub given-each : (image : List ℕ) (P : Given → Type 0) (steps : List Terms) → Each (λ terms. P (givenOf image terms)) steps → Each P (map (givenOf image) steps)
+given-each image P [] all = λ g m. absurd (in-none m)
+given-each image P (terms ∷ steps) all = each-more (all terms (here refl)) (given-each image P steps (λ other m. all other (there m)))
+
+-- whatever steps on a valid image are given, they grow soundly
+pub given-sound : (image : List ℕ) → Valid image → (steps : List Terms) → AllSound (systemOf image) (map (givenOf image) steps)
+given-sound image valid steps = given-each image (λ g. Sound (systemOf image) (g .grow)) steps (λ terms m. growth-sound image valid (terms .way))
 
 -- what a run's checks leave where none applies
 pub record Checked (image : List ℕ) (lent : Lent) : Type 0 where
   pub valid : Valid image
   pub even : Even lent
+  pub few-places : length (lent .cases) ≤ 65536
 
 check-high : (b : Bool) (number later : ℕ) → 20 ≤ number → (later ≡ 0) ⊎ (20 ≤ later) → (check b number later ≡ 0) ⊎ (20 ≤ check b number later)
 unfolding check
@@ -125,9 +134,9 @@ module _ (lent : Lent) (hints : List ℕ) (edition way : ℕ) where
   image-first zero e = refl
   image-first (suc number) e = absurd (omega arith)
 
-  rooms-checked : checkTerms lent hints edition way 0 ≡ 0 → T (oddRooms lent) → ⊥
+  rooms-checked : checkTerms lent hints edition way 0 ≡ 0 → (T (oddRooms lent) → ⊥) × (T (oversize lent hints) → ⊥)
   unfolding checkTerms
-  rooms-checked e = check-fails _ _ _ e .0
+  rooms-checked e = let odd = check-fails _ _ _ e in (odd .0, check-fails _ _ _ (odd .1) .0)
 
   terms-number : (number : ℕ) → (number ≡ 0) ⊎ (20 ≤ number) → (checkTerms lent hints edition way number ≡ 0) ⊎ (20 ≤ checkTerms lent hints edition way number)
   unfolding checkTerms
@@ -138,10 +147,11 @@ module _ (lent : Lent) (hints : List ℕ) (edition way : ℕ) where
 
 module _ (image : List ℕ) (lent : Lent) (terms : Terms) where
   pub checked : checkRun image lent terms ≡ 0 → Checked image lent
-  unfolding checkRun oddRooms
+  unfolding checkRun oddRooms oversize
   checked e =
       let v : checkImage image ≡ 0 = image-first lent (terms .hints) (terms .edition) (terms .way) (checkImage image) e in
-      let odd = rooms-checked lent (terms .hints) (terms .edition) (terms .way) (ap (checkTerms lent (terms .hints) (terms .edition) (terms .way)) (sym v) ∙ e) in
+      let rooms = rooms-checked lent (terms .hints) (terms .edition) (terms .way) (ap (checkTerms lent (terms .hints) (terms .edition) (terms .way)) (sym v) ∙ e) in
+      let odd = rooms .0 in
       record {
         valid = v;
         even = record {
@@ -151,6 +161,7 @@ module _ (image : List ℕ) (lent : Lent) (terms : Terms) where
           };
           symbols = eqb-true _ _ (is-true _ (neg-neg _ (λ t. odd (or-right _ _ (or-right _ _ t)))));
         };
+        few-places = ltb-false 65536 (length (lent .cases)) (is-false _ (λ t. rooms .1 (or-right _ _ (or-left _ _ t))));
       }
 
   -- a run's checks answer 0 or a number from 20 on
@@ -167,20 +178,16 @@ module _ (image : List ℕ) (lent : Lent) (terms : Terms) where
   unfolding checkRun
   image-number = image-kept lent (terms .hints) (terms .edition) (terms .way) (checkImage image)
 
--- the result of a run shows its steps
-result-steps : (lent : Lent) (n : Next) → resultOf lent n .steps ≡ comesTo n .steps
-unfolding resultOf
-result-steps lent n = refl
-
 module _ (image : List ℕ) (lent : Lent) (terms : Terms) where
   -- a run is refused, or it is the machine's
-  refused-run : (number : ℕ) → checkRun image lent terms ≡ number → 20 ≤ number → runOf image lent terms ≡ refused lent number
+  pub refused-run : (number : ℕ) → checkRun image lent terms ≡ number → 20 ≤ number → runOf image lent terms ≡ refused lent number
   unfolding runOf runWith
   refused-run zero e l = absurd (omega arith)
   refused-run (suc number) e l = ap (runWith image lent terms) e
 
-  machine-run : checkRun image lent terms ≡ 0 → runOf image lent terms ≡ resultOf lent (endOf image (roomsOf lent) terms)
-  unfolding runOf runWith
+  pub machine-run : checkRun image lent terms ≡ 0
+      → runOf image lent terms ≡ resultOf lent (chain (systemOf image) (roomsOf lent) (begin (systemOf image) (terms .edition)) (callsOf (givenOf image terms)))
+  unfolding runOf runWith endOf machine
   machine-run e = ap (runWith image lent terms) e
 
   refuses : (checkRun image lent terms ≡ 0 → ⊥) → Refused lent (checkRun image lent terms) (runOf image lent terms)
@@ -218,69 +225,41 @@ module _ (image : List ℕ) (lent : Lent) (terms : Terms) where
   way-after n = refuses-alike _ (way-waits lent (terms .hints) (terms .edition) (terms .way) (checkImage image) n) n
 
   -- a run that is not refused ends
-  end-is : Ended (endOf image (roomsOf lent) terms)
-  unfolding endOf
-  end-is = machine-ends (systemOf image) (roomsOf lent) (terms .edition) (givenOf image terms)
+  end-is : Ended (chain (systemOf image) (roomsOf lent) (begin (systemOf image) (terms .edition)) (callsOf (givenOf image terms)))
+  end-is = chain-ends (systemOf image) (roomsOf lent) (terms .edition) (givenOf image terms)
+
+  -- what holds of its terms holds of each of its calls
+  calls-each : (P : Given → Type 0) → P (givenOf image terms) → Each P (callsOf (givenOf image terms))
+  calls-each P p = each-same P (givenOf image terms) p (suc (terms .allowance))
 
   module _ (none : checkRun image lent terms ≡ 0) where
-    lawful : Lawful (systemOf image)
-    lawful = image-lawful image (checked image lent terms none .valid)
-
     shows : runOf image lent terms ≡ resultOf lent (ends (end-is .outcome))
     shows = machine-run none ∙ ap (resultOf lent) (end-is .is)
 
-    sound : Sound (systemOf image) (givenOf image terms .grow)
-    sound = growth-sound image (checked image lent terms none .valid) (terms .way)
+    valid : Valid image
+    valid = checked image lent terms none .valid
 
-    run-done : Done (systemOf image) (roomsOf lent) (terms .edition) (end-is .outcome)
-    unfolding endOf
-    run-done = machine-done (systemOf image) lawful (roomsOf lent) (terms .edition) (givenOf image terms) sound (end-is .is)
+    sound : AllSound (systemOf image) (callsOf (givenOf image terms))
+    sound = calls-each (λ g. Sound (systemOf image) (g .grow)) (growth-sound image valid (terms .way))
 
     run-rules : Rules image lent (terms .edition) (runOf image lent terms)
-    run-rules =
-        let c = checked image lent terms none in
-        subst (Rules image lent (terms .edition)) (sym shows) (rules image lent (terms .edition) (c .valid) (c .even) _ run-done)
+    run-rules = ended-rules image lent (terms .edition) valid (checked image lent terms none .even) sound (end-is .is) shows
 
-    run-ended : RunEnded image lent terms (runOf image lent terms)
-    unfolding endOf
-    run-ended = record {
-      outcome = end-is .outcome;
-      shows = shows;
-      how = machine-ended (systemOf image) lawful (roomsOf lent) (terms .edition) (givenOf image terms) sound (end-is .is);
-    }
-
-    run-allowed : runOf image lent terms .steps ≤ terms .allowance
-    unfolding endOf
-    run-allowed =
-        let steps = ap (λ (x : Result). x .steps) (machine-run none) ∙ result-steps lent _ in
-        omega (arith, steps, machine-allowed (systemOf image) lawful (roomsOf lent) (terms .edition) (givenOf image terms) sound)
+    run-ended : RunEnded image lent (terms .edition) (callsOf (givenOf image terms)) (runOf image lent terms)
+    run-ended = ended-how image lent (terms .edition) valid (checked image lent terms none .even) sound (end-is .is) shows
 
     run-decides : 2 ^ statesOf image ≤ length (lent .room .masks) → 2 ^ statesOf image ≤ length (lent .cases) → 4 ^ suc (statesOf image) ≤ terms .allowance
-        → Decides image lent terms (4 ^ suc (statesOf image)) (runOf image lent terms)
-    unfolding endOf
+        → Decides image lent (terms .edition) (callsOf (givenOf image terms)) (4 ^ suc (statesOf image)) (runOf image lent terms)
     run-decides places levels enough =
-        let d = machine-decided (systemOf image) lawful (roomsOf lent) (terms .edition) (givenOf image terms) sound places levels enough
-        (end-is .is) in
-        let steps = ap (λ (x : Result). x .steps) shows ∙ result-steps lent _ in
-        record {
-          verdict = subst (λ (x : Result). Verdict (terms .edition) (x .number)) (sym shows) (decided-number lent run-done d);
-          in-time = omega (arith, steps, decided-in-time d);
-          unbounded = λ rooms more b w a.
-              shows ∙ ap (resultOf lent)
-              (sym (verdict-stays (systemOf image) (roomsOf lent) rooms (terms .edition) (givenOf image terms) more b w a (decided-verdict d) (end-is .is)));
-        }
+        ended-decides image lent (terms .edition) valid (checked image lent terms none .even) sound (end-is .is) shows places levels
+        (calls-each (λ g. 4 ^ suc (statesOf image) ≤ g .allowance) enough)
 
-  refused-number : 20 ≤ checkRun image lent terms → runOf image lent terms .number ≡ checkRun image lent terms
-  unfolding refused
-  refused-number l = ap (λ (x : Result). x .number) (refused-run (checkRun image lent terms) refl l)
-
-  -- a number below 20 says that no check applied
-  unchecked : runOf image lent terms .number < 20 → checkRun image lent terms ≡ 0
-  unchecked l = at (run-number image lent terms)
-    where
-      at : (checkRun image lent terms ≡ 0) ⊎ (20 ≤ checkRun image lent terms) → checkRun image lent terms ≡ 0
-      at (inl e) = e
-      at (inr h) = absurd (omega (arith, refused-number h))
+    run-allowed : runOf image lent terms .steps ≤ terms .allowance
+    unfolding resultOf
+    run-allowed =
+        subst (λ (r : Result). r .steps ≤ terms .allowance) (sym (machine-run none))
+        (chain-within (systemOf image) (roomsOf lent) (terms .allowance) (terms .edition) (callsOf (givenOf image terms))
+        (calls-each (λ g. g .allowance ≤ terms .allowance) (omega arith)))
 
   in-allowance : runOf image lent terms .steps ≤ terms .allowance
   in-allowance = at (run-number image lent terms)
@@ -305,31 +284,10 @@ module _ (image : List ℕ) (lent : Lent) (terms : Terms) where
         decides = λ none few. run-decides none;
       }
 
--- a number that is a verdict refuses nothing
-verdict-low : {edition number : ℕ} → Verdict edition number → number < 20
-verdict-low (inl l) = omega arith
-verdict-low (inr e) = omega (arith, e .1)
-
--- two runs that reach a verdict agree, within one edition
-pub runs-agree : (image other : List ℕ) (lent lent′ : Lent) (terms terms′ : Terms) → HoldOne image other → terms .edition ≡ terms′ .edition
-    → Verdict (terms .edition) (runOf image lent terms .number) → Verdict (terms .edition) (runOf other lent′ terms′ .number)
-    → Agreed (runOf image lent terms) (runOf other lent′ terms′)
-runs-agree image other lent lent′ terms terms′ same edition v v′ =
-    let none = unchecked image lent terms (verdict-low v) in
-    let none′ = unchecked other lent′ terms′ (verdict-low v′) in
-    let e = shows image lent terms none in
-    let e′ = shows other lent′ terms′ none′ in
-    rw (e, e′)
-    (results-agree image other lent lent′ (terms .edition) (checked image lent terms none .valid) (checked other lent′ terms′ none′ .valid) same
-    (run-done image lent terms none)
-    (subst (λ (n : ℕ). Done (systemOf other) (roomsOf lent′) n (end-is other lent′ terms′ .outcome)) (sym edition) (run-done other lent′ terms′ none′))
-    (subst (λ (r : Result). Verdict (terms .edition) (r .number)) e v)
-    (subst (λ (r : Result). Verdict (terms .edition) (r .number)) e′ v′))
-
 -- where the start is not final the two editions are one
 pub editions-agree : (image : List ℕ) (lent : Lent) (terms : Terms) → (Accepted (automatonOf image) [] → ⊥)
     → runOf image lent (inEdition 1 terms) ≡ runOf image lent (inEdition 2 terms)
-unfolding runOf runWith checkRun endOf
+unfolding runOf runWith checkRun endOf machine
 editions-agree image lent terms not-final =
     ap (runWith image lent (inEdition 1 terms)) (editions-checked lent (terms .hints) (terms .way) (checkImage image))
     ∙ at (checkRun image lent (inEdition 2 terms)) refl
@@ -338,28 +296,32 @@ editions-agree image lent terms not-final =
         → runWith image lent (inEdition 1 terms) number ≡ runWith image lent (inEdition 2 terms) number
     at zero e =
         let valid = checked image lent (inEdition 2 terms) e .valid in
-        ap (resultOf lent) (machine-begins-alike (systemOf image) (roomsOf lent) (givenOf image terms) 1 2
-        (λ t. not-final (accepted-by-runs image valid [] .1 (λ s m. absurd (in-none m), t))))
+        ap (λ (n : Next). resultOf lent (chain (systemOf image) (roomsOf lent) n (callsOf (givenOf image terms))))
+        (begin-alike (systemOf image) (λ t. not-final (accepted-by-runs image valid [] .1 (λ s m. absurd (in-none m), t))) 1 2)
     at (suc number) e = refl
 
+-- what holds of a configuration in which a run on a valid image works, whatever its steps were given
+works-in : (image : List ℕ) (rooms : Rooms) (edition : ℕ) (steps : List Terms) {c : Configuration} → Valid image
+    → WorksIn (systemOf image) rooms edition (map (givenOf image) steps) c → Working (systemOf image) rooms c
+works-in image rooms edition steps valid works =
+    chain-working (systemOf image) (image-lawful image valid) rooms edition (map (givenOf image) steps) (given-sound image valid steps) works
+
 -- a block leaves the cases pending that waited above X, and no other
-pub block-unpends : (image : List ℕ) (rooms : Rooms) (terms : Terms) (X : Pending) (rest : List Pending) (c d : Configuration) → Valid image
-    → WorksIn (systemOf image) rooms (terms .edition) (givenOf image terms) c → c .pending ≡ X ∷ rest → step (systemOf image) (givenOf image terms) c ≡ blocks d
-    → d .pending ≡ rest
-block-unpends image rooms terms X rest c d valid works waits made =
-    let w = works-in (systemOf image) (image-lawful image valid) rooms (terms .edition) (givenOf image terms) (growth-sound image valid (terms .way)) works in
-    block-leaves (systemOf image) refl (givenOf image terms) (growth-sound image valid (terms .way)) c (w .holds) waits made
+pub block-unpends : (image : List ℕ) (rooms : Rooms) (edition : ℕ) (steps : List Terms) (terms : Terms) (X : Pending) (rest : List Pending)
+    (c d : Configuration) → Valid image → WorksIn (systemOf image) rooms edition (map (givenOf image) steps) c → c .pending ≡ X ∷ rest
+    → step (systemOf image) (givenOf image terms) c ≡ blocks d → d .pending ≡ rest
+block-unpends image rooms edition steps terms X rest c d valid works waits made =
+    block-leaves (systemOf image) refl (givenOf image terms) (growth-sound image valid (terms .way)) c
+    (works-in image rooms edition steps valid works .holds) waits made
 
 -- a case that is blocked passes the block test itself
-pub blocked-passes : (image : List ℕ) (rooms : Rooms) (terms : Terms) (X : Pending) (rest : List Pending) (c d : Configuration) → Valid image
-    → WorksIn (systemOf image) rooms (terms .edition) (givenOf image terms) c → c .pending ≡ X ∷ rest → step (systemOf image) (givenOf image terms) c ≡ blocks d
-    → T (passes (systemOf image) (c .table) (c .level - suc (length rest)) (X .case) (X .case))
-blocked-passes image rooms terms X rest c d valid works waits made =
-    let w = works-in (systemOf image) (image-lawful image valid) rooms (terms .edition) (givenOf image terms) (growth-sound image valid (terms .way)) works in
-    grown-passes (systemOf image) (givenOf image terms) c (w .holds) waits made
+pub blocked-passes : (image : List ℕ) (rooms : Rooms) (edition : ℕ) (steps : List Terms) (terms : Terms) (X : Pending) (rest : List Pending)
+    (c d : Configuration) → Valid image → WorksIn (systemOf image) rooms edition (map (givenOf image) steps) c → c .pending ≡ X ∷ rest
+    → step (systemOf image) (givenOf image terms) c ≡ blocks d → T (passes (systemOf image) (c .table) (c .level - suc (length rest)) (X .case) (X .case))
+blocked-passes image rooms edition steps terms X rest c d valid works waits made =
+    grown-passes (systemOf image) (givenOf image terms) c (works-in image rooms edition steps valid works .holds) waits made
 
 -- in every table that a run comes to, its blockers entered in order
-pub entered-in-order : (image : List ℕ) (rooms : Rooms) (terms : Terms) (c : Configuration) → Valid image
-    → WorksIn (systemOf image) rooms (terms .edition) (givenOf image terms) c → EnteredInOrder 0 (c .steps) (c .table)
-entered-in-order image rooms terms c valid works =
-    works-in (systemOf image) (image-lawful image valid) rooms (terms .edition) (givenOf image terms) (growth-sound image valid (terms .way)) works .stamped
+pub entered-in-order : (image : List ℕ) (rooms : Rooms) (edition : ℕ) (steps : List Terms) (c : Configuration) → Valid image
+    → WorksIn (systemOf image) rooms edition (map (givenOf image) steps) c → EnteredInOrder 0 (c .steps) (c .table)
+entered-in-order image rooms edition steps c valid works = works-in image rooms edition steps valid works .stamped

@@ -18,7 +18,7 @@ use Rattle.machine.proofs.Steps.{Advanced, tried, spent}
 -- the counts of a configuration, and what fits the rooms
 pub record Counted (rooms : Rooms) (c : Configuration) : Type 0 where
   pub blocks-made : c .blocks ≤ c .steps
-  pub hints-accepted : c .accepted ≤ c .blocks
+  pub hints-accepted : c .accepted ≤ c .steps
   pub table-fits : length (c .table) ≤ rooms .blockers
   pub word-fits : c .level ≤ rooms .word
 

@@ -21,6 +21,7 @@ use Rattle.machine.specs.Machine.{Step, opens, extends, blocks, closes, 
 use Rattle.machine.specs.Machine.{qualifies, chosen, riseLevels, noneAt, openStep, extendStep, blockStep, closeWith, closeStep}
 use Rattle.machine.specs.Machine.{workOn, workStep, stepOn, step, Next, goesOn, ends, judge, advance, chain}
 use Rattle.machine.specs.Machine.{Outcome, nonempty, empty, stepsLack, blockersLack, wordLacks}
+use Rattle.machine.specs.Meaning.{raise}
 
 -- one below the level of the case that waits before `rest`
 abbrev pub under : Configuration → List Pending → ℕ
@@ -246,10 +247,6 @@ module _ (S : System) (rooms : Rooms) where
   unfolding chain
   chain-ended-by n [] e = inl e
   chain-ended-by n (given ∷ later) e = ended-before given later n (chain-ended-by (advance S rooms given n) later e)
-
--- the same with another allowance
-abbrev pub raise : ℕ → Given → Given
-raise allowance given = record { grow = given .grow; hints = given .hints; allowance = allowance }
 
 -- the allowance does not change a step
 work-raised : (S : System) (more : ℕ) (given : Given) (c : Configuration) (p : Pending) (rest : List Pending) (below : ℕ) (o : Option ℕ)

@@ -301,5 +301,8 @@ abbrev pub begin : System → ℕ → Next
 begin S edition = start (S .initial) (S .finals) edition
 
 -- a run: begin, then calls that are all given the same: as many as its allowance has steps, and one that finds it used up
+abbrev pub callsOf : Given → List Given
+callsOf given = replicate (suc (given .allowance)) given
+
 unfoldable pub machine : System → Rooms → ℕ → Given → Next
-machine S rooms edition given = chain S rooms (begin S edition) (replicate (suc (given .allowance)) given)
+machine S rooms edition given = chain S rooms (begin S edition) (callsOf given)

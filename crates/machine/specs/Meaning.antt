@@ -1,10 +1,10 @@
--- What the promises say of runs: a closed frame, when its blockers entered, and where a run ended and what it lacked there.
+-- What the promises say of runs: a closed frame, when its blockers entered, where a run ended and what it lacked there, and what it was given.
 -- Assumes nothing: these are definitions.
 use Prim.Native.Nat.{ℕ, _≤_, _<_}
 use mathlib.Core.Path.{_≡_}
-use mathlib.Core.List.{List, [], _∷_}
+use mathlib.Core.List.{List, [], _∷_, _++_}
 use lib.Dec.{T}
-use lib.ListN.{length, replicate}
+use lib.ListN.{length}
 use Rattle.lists.specs.Lists.{_∈_, Each}
 use Rattle.masks.specs.Sets.{subset}
 use Rattle.machine.specs.System.{System}
@@ -46,14 +46,29 @@ Lacks S rooms given c (blockersLack d) = (d ≡ c) × NoRoom S given c blocks (�
 Lacks S rooms given c (wordLacks d) = (d ≡ c) × NoRoom S given c opens (λ after. c .level ≡ rooms .word)
 Lacks S rooms given c startsFinal = ⊥
 
--- 01's machine, begun in this edition and given the same at each step, comes to c and works on: no final case contains I, and as many steps were made
--- as c counts
-abbrev pub WorksIn : System → Rooms → ℕ → Given → Configuration → Type 0
-WorksIn S rooms edition given c = chain S rooms (begin S edition) (replicate (c .steps) given) ≡ goesOn c
+-- 01's machine, begun in this edition and called so, comes to c and works on; the calls of a run are all given the same
+abbrev pub WorksIn : System → Rooms → ℕ → List Given → Configuration → Type 0
+WorksIn S rooms edition calls c = chain S rooms (begin S edition) calls ≡ goesOn c
 
--- the step that ended a run: the machine worked in `at`, the next step ended it, and without a verdict this is what it lacked
-pub record EndedBy (S : System) (rooms : Rooms) (edition : ℕ) (given : Given) (outcome : Outcome) : Type 0 where
+-- the call that ended a run: those before it, of which each made a step, left the machine working in `at`, and it ended the run there; without a verdict this
+-- is what it lacked
+pub record EndedBy (S : System) (rooms : Rooms) (edition : ℕ) (calls : List Given) (outcome : Outcome) : Type 0 where
+  pub before : List Given
+  pub last : Given
+  pub later : List Given
   pub at : Configuration
-  pub works : WorksIn S rooms edition given at
-  pub ended : advance S rooms given (goesOn at) ≡ ends outcome
-  pub lacks : Lacks S rooms given at outcome
+  pub split : calls ≡ before ++ last ∷ later
+  pub works : WorksIn S rooms edition before at
+  pub counted : at .steps ≡ length before
+  pub ended : advance S rooms last (goesOn at) ≡ ends outcome
+  pub lacks : Lacks S rooms last at outcome
+
+-- the same with another allowance
+abbrev pub raise : ℕ → Given → Given
+raise allowance given = record { grow = given .grow; hints = given .hints; allowance = allowance }
+
+-- calls that are given the same, each with no smaller allowance, and perhaps more calls after them
+pub data Raised : List Given → List Given → Type 0 where
+  raisedNone : {more : List Given} → Raised [] more
+  raisedOne : {given : Given} {allowance : ℕ} {later later′ : List Given} → given .allowance ≤ allowance → Raised later later′
+      → Raised (given ∷ later) (raise allowance given ∷ later′)

@@ -2,10 +2,10 @@
 -- `Rattle.machine.proofs.Kept.kept`. Assumes nothing: these are statements.
 use Prim.Native.Nat.{ℕ, suc, _+_, _-_, _*_, _^_, _≤_, _<_, min}
 use mathlib.Core.Path.{_≡_}
-use mathlib.Core.List.{List, [], _∷_, _++_}
+use mathlib.Core.List.{List, [], _∷_, _++_, map}
 use mathlib.Core.Logic.{_↔_, _⊎_}
 use lib.Dec.{T, eqb}
-use lib.ListN.{length, take, replicate}
+use lib.ListN.{length, getD, take, replicate}
 use Rattle.lists.specs.Lists.{_∈_, Each, any, keep}
 use Rattle.masks.specs.Sets.{within, without}
 use Rattle.automata.specs.Image.{Row, Valid, checkImage, statesOf, symbolsOf, rowCountOf, initialOf, finalOf, rowsOf}
@@ -16,13 +16,16 @@ use Rattle.automata.specs.Picks.{eventsOf, FormRun, AllPick}
 use Rattle.automata.specs.Answers.{readImage, imageNumber, headAfter}
 use Rattle.writing.specs.Decimal.{digits, IsDecimal}
 use Rattle.writing.specs.Rooms.{Answer, noBytes, allBytes}
-use Rattle.machine.specs.Machine.{Blocker, Pending, Configuration, Rooms, Outcome, ends, begin, blocks, step, blocked, passes}
-use Rattle.machine.specs.Meaning.{Closed, EnteredInOrder, WorksIn, EndedBy}
+use Rattle.machine.specs.Machine.{Blocker, Pending, Configuration, Given, Rooms, Outcome, goesOn, ends}
+use Rattle.machine.specs.Machine.{begin, advance, chain, callsOf, blocks, step, blocked, passes}
+use Rattle.machine.specs.Meaning.{Closed, EnteredInOrder, WorksIn, EndedBy, Raised}
 use Rattle.machine.specs.Why.{Reason, byBlocker, byStart, nothing, why, FirstCovering, LowestAbsent}
 use Rattle.machine.specs.Hitting.{withCases, meets, best, growthOf}
 use Rattle.machine.specs.Print.{printOf, printRun}
-use Rattle.machine.specs.Lent.{blockersFrom, blockersIn, column, eachTable}
-use Rattle.machine.specs.Runs.{Lent, zeroed, Terms, Result, systemOf, roomsOf, givenOf, endOf, resultOf, checkRun, runOf}
+use Rattle.machine.specs.Lent.{BlockerRoom, blockersFrom, blockersIn, column, eachTable}
+use Rattle.machine.specs.Runs.{Lent, zeroed, Terms, Result, systemOf, roomsOf, givenOf, resultOf, checkRun, runOf}
+use Rattle.machine.specs.Records.{RunRecord, Stage, configurationOf, after, shown, Called, answering, aloneRecord, beginOf, checkStep, stepOf}
+use Rattle.machine.specs.Records.{stepsFrom, reachedBy, unrefused, givenBy, resultFrom}
 
 -- a symbol of the word is k or above
 pub record HasUnknown (image word : List ℕ) : Type 0 where
@@ -78,16 +81,11 @@ pub record Rules (image : List ℕ) (lent : Lent) (edition : ℕ) (r : Result) :
   -- 02, 10: the steps with which its blockers entered rise in table order, from 1 on and up to the steps made
   pub entered-in-order : EnteredInOrder 0 (r .steps) (heldBy r)
 
--- how a run ended: at its start, or by the step at which 01's machine answers or lacks steps or room
-pub record RunEnded (image : List ℕ) (lent : Lent) (terms : Terms) (r : Result) : Type 0 where
+-- how a run ended that was called so: at its start, or by the call at which 01's machine answers or lacks steps or room
+pub record RunEnded (image : List ℕ) (lent : Lent) (edition : ℕ) (calls : List Given) (r : Result) : Type 0 where
   pub outcome : Outcome
   pub shows : r ≡ resultOf lent (ends outcome)
-  pub how : (begin (systemOf image) (terms .edition) ≡ ends outcome)
-      ⊎ EndedBy (systemOf image) (roomsOf lent) (terms .edition) (givenOf image terms) outcome
-
--- the same terms with another allowance
-abbrev pub withAllowance : ℕ → Terms → Terms
-withAllowance allowance terms = record { hints = terms .hints; allowance = allowance; edition = terms .edition; way = terms .way }
+  pub how : (begin (systemOf image) edition ≡ ends outcome) ⊎ EndedBy (systemOf image) (roomsOf lent) edition calls outcome
 
 -- the same terms in another edition
 abbrev pub inEdition : ℕ → Terms → Terms
@@ -101,12 +99,12 @@ byWay way terms = record { hints = terms .hints; allowance = terms .allowance; e
 abbrev pub Verdict : ℕ → ℕ → Type 0
 Verdict edition number = (number ≤ 1) ⊎ ((edition ≡ 2) × (number ≡ 5))
 
--- the run has a verdict, after at most `most` steps, and any larger rooms and allowance give the same result
-pub record Decides (image : List ℕ) (lent : Lent) (terms : Terms) (most : ℕ) (r : Result) : Type 0 where
-  pub verdict : Verdict (terms .edition) (r .number)
+-- a run that was called so has a verdict, after at most `most` steps, and any larger rooms and allowances give the same result
+pub record Decides (image : List ℕ) (lent : Lent) (edition : ℕ) (calls : List Given) (most : ℕ) (r : Result) : Type 0 where
+  pub verdict : Verdict edition (r .number)
   pub in-time : r .steps ≤ most
-  pub unbounded : (rooms : Rooms) (more : ℕ) → length (lent .room .masks) ≤ rooms .blockers → length (lent .cases) ≤ rooms .word
-      → terms .allowance ≤ more → r ≡ resultOf lent (endOf image rooms (withAllowance more terms))
+  pub unbounded : (rooms : Rooms) (raised : List Given) → length (lent .room .masks) ≤ rooms .blockers → length (lent .cases) ≤ rooms .word
+      → Raised calls raised → r ≡ resultOf lent (chain (systemOf image) rooms (begin (systemOf image) edition) raised)
 
 -- the promises of one run
 pub record RunPromises (image : List ℕ) (lent : Lent) (terms : Terms) (r : Result) : Type 0 where
@@ -122,14 +120,90 @@ pub record RunPromises (image : List ℕ) (lent : Lent) (terms : Terms) (r : Res
   pub way-after : (checkRun image lent (byWay 0 terms) ≡ 0 → ⊥) → Refused lent (checkRun image lent (byWay 0 terms)) r
   pub judged : checkRun image lent terms ≡ 0 → Rules image lent (terms .edition) r
   -- "Any other run stops at the very step where 01's machine lacks steps or room."
-  pub ended : checkRun image lent terms ≡ 0 → RunEnded image lent terms r
+  pub ended : checkRun image lent terms ≡ 0 → RunEnded image lent (terms .edition) (callsOf (givenOf image terms)) r
   -- no run makes more steps than it is allowed
   pub in-allowance : r .steps ≤ terms .allowance
   -- "with n ≤ 16, 2^n places and 4^(n+1) steps every run that is not refused reaches the verdict, with the machine's own count of steps, at most
   -- 4^(n+1)"; n ≤ 16 is what lets 2^n places pass check 31
   pub decides : checkRun image lent terms ≡ 0 → statesOf image ≤ 16 → 2 ^ statesOf image ≤ length (lent .room .masks)
       → 2 ^ statesOf image ≤ length (lent .cases) → 4 ^ suc (statesOf image) ≤ terms .allowance
-      → Decides image lent terms (4 ^ suc (statesOf image)) r
+      → Decides image lent (terms .edition) (callsOf (givenOf image terms)) (4 ^ suc (statesOf image)) r
+
+-- 02, 8: the promises of a begin
+pub record BeginPromises (image : List ℕ) (lent : Lent) (terms : Terms) (called : Called) : Type 0 where
+  -- "a refused begin gives 0 in the other fields", and no step changes such a record: "a record with an answer above 6 .. gives 33"
+  pub refuses : (checkRun image lent terms ≡ 0 → ⊥) → called ≡ answering (record { tables = lent; run = aloneRecord (checkRun image lent terms) })
+  pub refused-stays : (checkRun image lent terms ≡ 0 → ⊥) → (steps : List Terms) → stepsFrom image (called .left) steps ≡ called .left
+  -- "begin checks the input and makes the start"
+  pub begins : checkRun image lent terms ≡ 0 → called ≡ answering (shown lent (begin (systemOf image) (terms .edition)))
+
+-- none of 33's bounds is passed
+pub record Unbroken (rooms : Rooms) (run : RunRecord) : Type 0 where
+  pub answer : run .answer ≤ 6
+  pub held : run .held ≤ rooms .blockers
+  pub level : run .level ≤ rooms .word
+  pub pending : run .pending ≤ run .level
+  pub blocks : run .blocks ≤ run .steps
+  pub accepted : run .accepted ≤ run .steps
+
+-- a table of which `old` places were in use, and then `new`: places that became free hold 0, "the rest stay"
+pub record Changed (old new : ℕ) (before after : List ℕ) : Type 0 where
+  pub long : length after ≡ length before
+  pub freed : (i : ℕ) → new ≤ i → i < old → getD after i 0 ≡ 0
+  pub rest : (i : ℕ) → old ≤ i → new ≤ i → getD after i 0 ≡ getD before i 0
+
+-- the same of each table of the blocker room
+pub record RoomChanged (old new : ℕ) (before after : BlockerRoom) : Type 0 where
+  pub masks : Changed old new (before .masks) (after .masks)
+  pub levels : Changed old new (before .levels) (after .levels)
+  pub entered : Changed old new (before .entered) (after .entered)
+
+-- what a call changes in the tables; a word that is found stands in places of pending cases
+pub record Changes (at : Stage) (called : Called) : Type 0 where
+  pub room : RoomChanged (at .run .held) (called .left .run .held) (at .tables .room) (called .left .tables .room)
+  pub cases : Changed (at .run .pending) (called .left .run .pending) (at .tables .cases) (called .left .tables .cases)
+  pub symbols : (called .number ≡ 1 → ⊥) → Changed (at .run .pending) (called .left .run .pending) (at .tables .symbols) (called .left .tables .symbols)
+  pub word : called .number ≡ 1 → Changed (at .run .pending) (at .run .pending) (at .tables .symbols) (called .left .tables .symbols)
+
+-- 02, 8: the promises of one step on whatever stands in record and tables, made by a begin or not
+pub record StepPromises (image : List ℕ) (terms : Terms) (at : Stage) (called : Called) : Type 0 where
+  -- "gives 33 (broken ticket), after 37": a run's checks come first, and 33 exactly where one of its bounds is passed
+  pub run-first : (checkRun image (at .tables) terms ≡ 0 → ⊥) → checkStep image terms at ≡ checkRun image (at .tables) terms
+  pub takes-unbroken : checkRun image (at .tables) terms ≡ 0 → Unbroken (roomsOf (at .tables)) (at .run) → checkStep image terms at ≡ 0
+  pub refuses-broken : checkRun image (at .tables) terms ≡ 0 → (Unbroken (roomsOf (at .tables)) (at .run) → ⊥) → checkStep image terms at ≡ 33
+  -- "a refused step changes nothing either, the record included"
+  pub refuses : (checkStep image terms at ≡ 0 → ⊥) → called ≡ record { number = checkStep image terms at; left = at }
+  -- "a finished record (0 to 5) gives its answer again and nothing changes"
+  pub finished : checkStep image terms at ≡ 0 → at .run .answer ≤ 5 → called ≡ answering at
+  -- "does the machine's step for the places in use as they stand"
+  pub works : checkStep image terms at ≡ 0 → at .run .answer ≡ 6
+      → called ≡ answering (after at (advance (systemOf image) (roomsOf (at .tables)) (givenOf image terms) (goesOn (configurationOf at))))
+  -- "A working record whose steps have reached or passed the step's allowance gets 2."
+  pub spent : checkStep image terms at ≡ 0 → at .run .answer ≡ 6 → terms .allowance ≤ at .run .steps → called .number ≡ 2
+  -- "the rest stay"
+  pub changes : Changes at called
+  -- what a step leaves that was not refused, no later one refuses as broken
+  pub taken-again : checkStep image terms at ≡ 0 → (later : Terms) → checkRun image (at .tables) later ≡ 0 → checkStep image later (called .left) ≡ 0
+
+-- 02, 8: the promises of what a begin that was not refused and steps have made, each with hints, a way and an allowance of its own
+pub record StepsPromises (image : List ℕ) (lent : Lent) (begun : Terms) (steps : List Terms) (at : Stage) : Type 0 where
+  -- "Between calls of a working run the rooms stand as 01's machine has them."
+  pub shows : at ≡ shown lent (chain (systemOf image) (roomsOf lent) (begin (systemOf image) (begun .edition)) (givenBy image lent steps))
+  -- "The rules judge such a run once its answer is no longer 6, under its begin's edition"; no later step changes what has ended
+  pub judged : (at .run .answer ≡ 6 → ⊥) → Rules image lent (begun .edition) (resultFrom at)
+  pub ended : (at .run .answer ≡ 6 → ⊥) → RunEnded image lent (begun .edition) (givenBy image lent steps) (resultFrom at)
+  pub stays : (at .run .answer ≡ 6 → ⊥) → (later : List Terms) → stepsFrom image at later ≡ at
+  -- "for the bound, its allowance is the least that a step up to then was given"
+  pub decides : (at .run .answer ≡ 6 → ⊥) → statesOf image ≤ 16 → 2 ^ statesOf image ≤ length (lent .room .masks)
+      → 2 ^ statesOf image ≤ length (lent .cases) → Each (λ terms. 4 ^ suc (statesOf image) ≤ terms .allowance) (unrefused image lent steps)
+      → Decides image lent (begun .edition) (givenBy image lent steps) (4 ^ suc (statesOf image)) (resultFrom at)
+  -- it works no more after 4^(n+1) steps that are not refused, whatever its rooms and allowances
+  pub works-no-more : 4 ^ suc (statesOf image) ≤ length (unrefused image lent steps) → at .run .answer ≡ 6 → ⊥
+
+-- a run that was begun in this edition, at once or step by step, and its result
+pub data RunBy (image : List ℕ) (lent : Lent) : ℕ → Result → Type 0 where
+  atOnce : (terms : Terms) → RunBy image lent (terms .edition) (runOf image lent terms)
+  bySteps : (begun : Terms) (steps : List Terms) → RunBy image lent (begun .edition) (resultFrom (reachedBy image lent begun steps))
 
 -- 02, 2: the promises of the answer why a case X is blocked at level i
 pub record WhyPromises (initial : ℕ) (table : List Blocker) (i X : ℕ) (answer : Reason) : Type 0 where
@@ -202,31 +276,40 @@ pub record Promises : Type 0 where
   pub word-test-same : (image other word : List ℕ) → Valid image → Valid other → HoldOne image other → wordTest image word ≡ wordTest other word
   -- every run keeps its promises, whatever it is lent
   pub runs : (image : List ℕ) (lent : Lent) (terms : Terms) → RunPromises image lent terms (runOf image lent terms)
+  -- 02, 8: every begin, every step, and what a begin and steps make
+  pub begins : (image : List ℕ) (lent : Lent) (terms : Terms) → BeginPromises image lent terms (beginOf image lent terms)
+  pub steps : (image : List ℕ) (terms : Terms) (at : Stage) → StepPromises image terms at (stepOf image terms at)
+  pub by-steps : (image : List ℕ) (lent : Lent) (begun : Terms) (steps : List Terms) → checkRun image lent begun ≡ 0
+      → StepsPromises image lent begun steps (reachedBy image lent begun steps)
+  -- "The former run must equal begin, then steps."
+  pub run-is-steps : (image : List ℕ) (lent : Lent) (terms : Terms)
+      → runOf image lent terms ≡ resultFrom (reachedBy image lent terms (replicate (suc (terms .allowance)) terms))
   -- "Whatever hints, rooms and allowances, two runs on one valid automaton that reach a verdict agree", within one edition; 02, 7: "The two-run rule ..
-  -- both ways, mixed too"
-  pub runs-agree : (image other : List ℕ) (lent lent′ : Lent) (terms terms′ : Terms) → HoldOne image other → terms .edition ≡ terms′ .edition
-      → Verdict (terms .edition) (runOf image lent terms .number) → Verdict (terms .edition) (runOf other lent′ terms′ .number)
-      → Agreed (runOf image lent terms) (runOf other lent′ terms′)
+  -- both ways, mixed too"; 02, 8: at once or step by step
+  pub runs-agree : (image other : List ℕ) (lent lent′ : Lent) (edition : ℕ) (r s : Result) → HoldOne image other → RunBy image lent edition r
+      → RunBy other lent′ edition s → Verdict edition (r .number) → Verdict edition (s .number) → Agreed r s
   -- 02, 6: "1 answers as now, 2 answers such a start by 5": on any other start the two editions are one
   pub editions-agree : (image : List ℕ) (lent : Lent) (terms : Terms) → (Accepted (automatonOf image) [] → ⊥)
       → runOf image lent (inEdition 1 terms) ≡ runOf image lent (inEdition 2 terms)
-  -- "X is no longer pending": a block leaves the cases pending that waited above X, and no other
-  pub block-unpends : (image : List ℕ) (rooms : Rooms) (terms : Terms) (X : Pending) (rest : List Pending) (c d : Configuration) → Valid image
-      → WorksIn (systemOf image) rooms (terms .edition) (givenOf image terms) c → c .pending ≡ X ∷ rest → step (systemOf image) (givenOf image terms) c ≡ blocks d
+  -- "X is no longer pending": a block leaves the cases pending that waited above X, and no other; wherever a run works, at once or step by step
+  pub block-unpends : (image : List ℕ) (rooms : Rooms) (edition : ℕ) (steps : List Terms) (terms : Terms) (X : Pending) (rest : List Pending)
+      (c d : Configuration) → Valid image → WorksIn (systemOf image) rooms edition (map (givenOf image) steps) c → c .pending ≡ X ∷ rest
+      → step (systemOf image) (givenOf image terms) c ≡ blocks d
       → d .pending ≡ rest
   -- 02, 7: "Show that it passes the block test whenever X does": for either way, every table, level and X
   pub grows-passing : (image : List ℕ) (way : ℕ) (table : List Blocker) (below X : ℕ) → Valid image → T (passes (systemOf image) table below X X)
       → T (passes (systemOf image) table below X (growthOf way (systemOf image) (rowsOf image) table below X))
-  -- "as every X that a run from its begin grows does": whatever case a step of a run blocks, by the table at that time
-  pub blocked-passes : (image : List ℕ) (rooms : Rooms) (terms : Terms) (X : Pending) (rest : List Pending) (c d : Configuration) → Valid image
-      → WorksIn (systemOf image) rooms (terms .edition) (givenOf image terms) c → c .pending ≡ X ∷ rest → step (systemOf image) (givenOf image terms) c ≡ blocks d
+  -- "as every X that a run from its begin grows does": whatever case a step blocks, by the table at that time
+  pub blocked-passes : (image : List ℕ) (rooms : Rooms) (edition : ℕ) (steps : List Terms) (terms : Terms) (X : Pending) (rest : List Pending)
+      (c d : Configuration) → Valid image → WorksIn (systemOf image) rooms edition (map (givenOf image) steps) c → c .pending ≡ X ∷ rest
+      → step (systemOf image) (givenOf image terms) c ≡ blocks d
       → T (passes (systemOf image) (c .table) (c .level - suc (length rest)) (X .case) (X .case))
   -- 02, 7: what is counted, and which state is picked
   pub counts-once : (X : ℕ) (cases : List ℕ) → CountedOnce X cases (withCases X [] cases)
   pub picks-most : (n : ℕ) (sets : List ℕ) → 1 ≤ n → MeetsMost n sets (best n sets)
   -- 02, 10, of every table that a run comes to on its way
-  pub entered-in-order : (image : List ℕ) (rooms : Rooms) (terms : Terms) (c : Configuration) → Valid image
-      → WorksIn (systemOf image) rooms (terms .edition) (givenOf image terms) c → EnteredInOrder 0 (c .steps) (c .table)
+  pub entered-in-order : (image : List ℕ) (rooms : Rooms) (edition : ℕ) (steps : List Terms) (c : Configuration) → Valid image
+      → WorksIn (systemOf image) rooms edition (map (givenOf image) steps) c → EnteredInOrder 0 (c .steps) (c .table)
   -- 02, 2: why a case is blocked at a level, for every table; I is a mask, which has 64 bits
   pub why-tells : (initial : ℕ) (table : List Blocker) (i X : ℕ) → T (within 64 initial) → WhyPromises initial table i X (why initial table i X)
   -- "Of masks and levels of unlike length, the shorter table says how many blockers there are."

@@ -1,10 +1,9 @@
 //! `afa_run`, called with every slice in guarded memory. It stands apart from the other functions so
 //! that only those who use it need an archive that has it.
 
-use super::bytes_of;
-use crate::compare::hexadecimal;
+use super::lent::{Given, Memory};
 use crate::fault;
-use crate::guarded::{Edge, ReadOnly, Untouchable, Writable, EDGES};
+use crate::guarded::{Edge, Untouchable};
 use crate::tables::{Answer, Rooms, Tables, Terms};
 
 /// As `include/afa.h` declares it.
@@ -112,94 +111,26 @@ const COUNTS_BEFORE: [u64; 4] = [0x1111, 0x2222, 0x3333, 0x4444];
 
 /// The function with the memory that is lent to it, mapped once and used for every call.
 pub struct Runner {
-    image: ReadOnly,
-    masks: Writable,
-    levels: Writable,
-    entered: Writable,
-    cases: Writable,
-    symbols: Writable,
-    hints: ReadOnly,
-    counts: Writable,
+    memory: Memory<4>,
 }
 
 impl Runner {
-    /// With room for images of 2^18 bytes and tables of 2^18 places.
     pub fn new() -> Self {
-        const PLACES: usize = 1 << 18;
         Runner {
-            image: ReadOnly::with_room(1 << 18),
-            masks: Writable::with_room(PLACES * size_of::<u64>()),
-            levels: Writable::with_room(PLACES * size_of::<u32>()),
-            entered: Writable::with_room(PLACES * size_of::<u64>()),
-            cases: Writable::with_room(PLACES * size_of::<u64>()),
-            symbols: Writable::with_room(PLACES),
-            hints: ReadOnly::with_room(PLACES * size_of::<u64>()),
-            counts: Writable::with_room(size_of::<[u64; 4]>()),
+            memory: Memory::new(),
         }
     }
 
     /// The answer, and what the tables hold after it.
     pub fn run(&mut self, image: &[u8], before: &Tables, terms: Terms<&[u64]>) -> (Answer, Tables) {
-        let [first, second] = EDGES.map(|edge| self.run_at(edge, image, before, terms));
-        assert!(
-            first == second,
-            "afa_run answers by where the slices stand: {}, rooms {:?}, {terms:?}: {:?} and {:?}",
-            hexadecimal(image),
-            before.lengths(),
-            first.0,
-            second.0
-        );
-        first
-    }
-
-    fn run_at(
-        &mut self,
-        edge: Edge,
-        image: &[u8],
-        before: &Tables,
-        terms: Terms<&[u64]>,
-    ) -> (Answer, Tables) {
-        let image = self.image.lend(image, edge);
-        let masks = self.masks.lend(&before.masks, edge);
-        let levels = self.levels.lend(&before.levels, edge);
-        let entered = self.entered.lend(&before.entered, edge);
-        let cases = self.cases.lend(&before.cases, edge);
-        let symbols = self.symbols.lend(&before.symbols, edge);
-        let hints = self.hints.lend(terms.hints, edge);
-        let terms = Terms { hints, ..terms };
-        let counts = self.counts.lend(&COUNTS_BEFORE, edge);
-        let counts: &mut [u64; 4] = counts.try_into().expect("four numbers");
-        let number = {
-            let rooms = Rooms {
-                masks: &mut *masks,
-                levels: &mut *levels,
-                entered: &mut *entered,
-                cases: &mut *cases,
-                symbols: &mut *symbols,
-            };
-            let lengths = before.lengths().map(usize::to_be_bytes);
-            let lent: [fault::Lent; 6] = [
-                ("image", image),
-                (
-                    "lengths of masks, levels, entered, cases and symbols",
-                    lengths.as_flattened(),
-                ),
-                ("allowance", &terms.allowance.to_be_bytes()),
-                ("edition", &terms.edition.to_be_bytes()),
-                ("way", &terms.way.to_be_bytes()),
-                ("hints, lowest byte first", bytes_of(hints)),
-            ];
-            fault::on_record("afa_run", &lent, || run(image, rooms, terms, counts))
+        let given = Given {
+            image,
+            before,
+            terms,
         };
-        let [steps, level, blockers, hints_accepted] = *counts;
+        let (number, counts, after) = self.memory.call("afa_run", given, COUNTS_BEFORE, run);
+        let [steps, level, blockers, hints_accepted] = counts;
         let answer = Answer::of_numbers([number, steps, level, blockers, hints_accepted]);
-        let after = Tables {
-            masks: masks.to_vec(),
-            levels: levels.to_vec(),
-            entered: entered.to_vec(),
-            cases: cases.to_vec(),
-            symbols: symbols.to_vec(),
-        };
         (answer, after)
     }
 }

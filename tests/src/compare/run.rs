@@ -22,6 +22,8 @@ pub struct Seen {
     pub left: usize,
     /// Blocks into a full table.
     pub room_by_leaving: usize,
+    /// Blocks after which F was pending again.
+    pub pending_again: usize,
     pub rose: usize,
     pub left_before: usize,
     pub left_behind: usize,
@@ -32,7 +34,7 @@ pub struct Seen {
 }
 
 impl Seen {
-    fn event(&mut self, event: Event, way: u64) {
+    pub(super) fn event(&mut self, event: Event, way: u64) {
         match event {
             Event::Opened { pending } => self.opened_blocked += usize::from(!pending),
             Event::Extended { .. } => self.extended += 1,
@@ -48,6 +50,7 @@ impl Seen {
                 self.left += usize::from(left > 0);
                 self.room_by_leaving += usize::from(was_full);
             }
+            Event::PendingAgain => self.pending_again += 1,
             Event::Rose {
                 left_before,
                 left_behind,
@@ -60,7 +63,7 @@ impl Seen {
         }
     }
 
-    fn answer(&mut self, answer: &Answer) {
+    pub(super) fn answer(&mut self, answer: &Answer) {
         self.runs += 1;
         *self.by_number.entry(answer.number).or_default() += 1;
         self.highest_level = self.highest_level.max(answer.level);
@@ -148,7 +151,7 @@ impl Comparison {
 }
 
 /// Where the tables first differ.
-fn differences(expected: &Tables, got: &Tables) -> String {
+pub(super) fn differences(expected: &Tables, got: &Tables) -> String {
     first_difference("mask", &expected.masks, &got.masks)
         + &first_difference("level", &expected.levels, &got.levels)
         + &first_difference("entered", &expected.entered, &got.entered)

@@ -1,4 +1,5 @@
-//! Blocker room: tables of one length, of which the first places are in use.
+//! Blocker room: tables of one length, of which the first places are in use. The others are neither
+//! read nor, until they come into use, written.
 
 use super::automaton::contains;
 use super::entered::EnteredTable;
@@ -27,6 +28,10 @@ impl<'a, Entered: EnteredTable> Blockers<'a, Entered> {
     pub fn hold(&mut self, held: usize) {
         assert!(held <= self.masks.len());
         self.held = held;
+    }
+
+    pub fn count(&self) -> usize {
+        self.held
     }
 
     pub fn is_full(&self) -> bool {
@@ -106,8 +111,8 @@ impl<'a, Entered: EnteredTable> Blockers<'a, Entered> {
         self.remove(0..self.held, |_, its_level| its_level <= level);
     }
 
-    /// Those among the places for which the test holds leave, and the rest close up. Answers how
-    /// many left.
+    /// Those among the places for which the test holds leave, and the rest close up. The places that
+    /// this frees become 0. Answers how many left.
     fn remove(&mut self, places: Range<usize>, leaves: impl Fn(u64, u32) -> bool) -> usize {
         let Some(first) = self.first(places.clone(), &leaves) else {
             return 0;
@@ -124,8 +129,21 @@ impl<'a, Entered: EnteredTable> Blockers<'a, Entered> {
         self.levels.copy_within(places.end..self.held, kept);
         self.entered.close_up(places.end..self.held, kept);
         let left = places.end - kept;
+        self.clear(self.held - left..self.held);
         self.held -= left;
         left
+    }
+
+    /// No place is in use, and all are 0.
+    pub fn clear_all(&mut self) {
+        self.clear(0..self.masks.len());
+        self.held = 0;
+    }
+
+    fn clear(&mut self, places: Range<usize>) {
+        self.masks[places.clone()].fill(0);
+        self.levels[places.clone()].fill(0);
+        self.entered.clear(places);
     }
 
     /// The first of the places at which the test holds. It is made of four at a time and only then
@@ -145,13 +163,5 @@ impl<'a, Entered: EnteredTable> Blockers<'a, Entered> {
         }
         let rest = mask_rest.iter().zip(level_rest).position(holds)?;
         Some(place + rest)
-    }
-
-    /// Clears what is not in use. Answers how many are held.
-    pub fn finish(mut self) -> usize {
-        self.masks[self.held..].fill(0);
-        self.levels[self.held..].fill(0);
-        self.entered.clear(self.held);
-        self.held
     }
 }

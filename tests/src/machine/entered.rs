@@ -14,8 +14,8 @@ pub trait EnteredTable {
     /// The blockers at the places are now those from `to` on, and keep their numbers.
     fn close_up(&mut self, places: Range<usize>, to: usize);
 
-    /// From the place on nothing is in use.
-    fn clear(&mut self, from: usize);
+    /// The places are no longer in use.
+    fn clear(&mut self, places: Range<usize>);
 }
 
 impl EnteredTable for &mut [u64] {
@@ -31,8 +31,8 @@ impl EnteredTable for &mut [u64] {
         self.copy_within(places, to);
     }
 
-    fn clear(&mut self, from: usize) {
-        self[from..].fill(0);
+    fn clear(&mut self, places: Range<usize>) {
+        self[places].fill(0);
     }
 }
 
@@ -45,5 +45,5 @@ impl EnteredTable for () {
 
     fn close_up(&mut self, _: Range<usize>, _: usize) {}
 
-    fn clear(&mut self, _: usize) {}
+    fn clear(&mut self, _: Range<usize>) {}
 }

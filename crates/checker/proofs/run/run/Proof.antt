@@ -1,11 +1,13 @@
-use Rattle.checker.proofs.Checking.{run-refuses-image, run-reads}
+use Rattle.checker.proofs.Calling.{run-refuses-image}
+use Rattle.checker.proofs.Checking.{image-reads}
 use borrow.Author.Needs.{needs}
 use Rattle.checker.proofs.run.run.Statement.{statement}
 use Rattle.checker.proofs.run.run.Tie as tie
 use Rattle.checker.proofs.run.run.Reads as reads
 use Rattle.checker.proofs.run.run.Lts as lts
 use Rattle.automata.proofs.image.read_image.Reads as read-image-reads
-use Rattle.checker.proofs.run.refuse.Reads as refuse-reads
+use Rattle.checker.proofs.calls.alone.Reads as alone-reads
+use Rattle.checker.proofs.run.count_up.Reads as count-up-reads
 use Rattle.checker.proofs.run.run_read.Reads as run-read-reads
 
 read-image-requires : tie.Need-read-image-requires
@@ -14,17 +16,17 @@ read-image-requires c κs = search needs
 enum-known-number : tie.Need-enum-known-number
 enum-known-number c = search needs
 
-cast-refuse : tie.Need-cast-refuse
-cast-refuse c = search needs
+alone-requires : tie.Need-alone-requires
+alone-requires c κs = search needs
 
-refuse-requires : tie.Need-refuse-requires
-refuse-requires c κs = search needs
+count-up-requires : tie.Need-count-up-requires
+count-up-requires c κs = search needs
 
 enum-known-head : tie.Need-enum-known-head
 enum-known-head c = search needs
 
 run-read-requires : tie.Need-run-read-requires
-run-read-requires c κs = search (run-reads, needs)
+run-read-requires c κs = search (image-reads, needs)
 
 returns : tie.Need-returns
 returns c = search (run-refuses-image, needs)
@@ -53,8 +55,8 @@ run-spec =
     (tie.spec
     read-image-requires
     enum-known-number
-    cast-refuse
-    refuse-requires
+    alone-requires
+    count-up-requires
     enum-known-head
     run-read-requires
     returns

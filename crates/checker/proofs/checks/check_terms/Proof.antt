@@ -1,11 +1,11 @@
 use borrow.Author.Needs.{needs}
 use Rattle.checker.proofs.Checking.{odd-levels, odd-entered, odd-word, over-blockers, over-word, over-hints}
 use Rattle.checker.proofs.Checking.{no-edition, first-edition, second-edition}
-use Rattle.checker.proofs.run.check_terms.Statement.{statement}
-use Rattle.checker.proofs.run.check_terms.Tie as tie
-use Rattle.checker.proofs.run.check_terms.Reads as reads
-use Rattle.checker.proofs.run.check_terms.Lts as lts
-use Rattle.checker.proofs.run.check_way.Reads as check-way-reads
+use Rattle.checker.proofs.checks.check_terms.Statement.{statement}
+use Rattle.checker.proofs.checks.check_terms.Tie as tie
+use Rattle.checker.proofs.checks.check_terms.Reads as reads
+use Rattle.checker.proofs.checks.check_terms.Lts as lts
+use Rattle.checker.proofs.checks.check_way.Reads as check-way-reads
 
 returns : tie.Need-returns
 returns c = search (odd-levels, needs)

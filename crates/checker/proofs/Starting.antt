@@ -1,11 +1,11 @@
--- A whole run: what it begins with, that each step leads on to the machine's outcome, and what stands at its end. Assumes nothing.
+-- What a run begins with: the start's record, and tables that are cleared. Assumes nothing.
 use Prim.Native.Nat.{ℕ, _-_, _≤_}
-use mathlib.Core.Path.{_≡_, ap, _∙_}
-use mathlib.Core.Bool.{Bool, true, false}
+use mathlib.Core.Path.{_≡_, sym, ap, _∙_}
+use mathlib.Core.Bool.{Bool, true, false, not}
 use mathlib.Core.List.{List, [], _∷_, _++_, append-nil}
 use native.Mathlib.Nat.{sub-zero}
 use native.Mathlib.Omega.{arith}
-use borrow.Author.Tests.{ne-eqb}
+use borrow.Author.Tests.{ne-eqb, not-true, not-false}
 use lib.ListN.{length, take, replicate, length-replicate, drop-of-length-le}
 use Rattle.lists.specs.Tests.{choose, _or_}
 use Rattle.lists.specs.Lists.{any}
@@ -13,30 +13,29 @@ use Rattle.masks.specs.Sets.{subset}
 use Rattle.machine.specs.Machine.{Blocker, beginning, startAnswer, start}
 use Rattle.machine.specs.Lent.{BlockerRoom, columnBack, placed}
 use Rattle.machine.specs.Runs.{numberOf}
-use Rattle.machine.specs.Records.{RunRecord, pendingOf, recordOf}
+use Rattle.machine.specs.Records.{pendingOf, recordOf, aloneRecord}
 use Rattle.machine.proofs.LentTables.{tables-even, placed-none}
 use Rattle.blockers.specs.Room.{over}
 use Rattle.blockers.specs.Room as Room
 use Rattle.pending.specs.Room.{Placed as PlacedWord}
-use Rattle.checker.specs.Whole.{Checked, Cleared}
-
--- the machine's record at a start, with this answer
-abbrev startsWith : ℕ → RunRecord
-startsWith answer = record { answer = answer; steps = 0; level = 0; isOpen = false; held = 0; pending = 0; blocks = 0; accepted = 0 }
+use Rattle.checker.specs.declared.record.Run.{Run}
+use Rattle.checker.specs.Stage.{recordIn}
+use Rattle.checker.specs.Calls.{Checked, Cleared}
 
 -- the start's record, by the test and the edition
-module _ (initial finals edition : ℕ) (b : Bool) (e : b ≡ subset initial finals) where
-  pub start-final : b ≡ true → (edition ≡ 2 → ⊥) → startsWith 1 ≡ recordOf (start initial (finals ∷ []) edition)
-  unfolding start startAnswer any _or_ choose recordOf numberOf pendingOf beginning
-  start-final t first = rw (← e, t, ne-eqb _ _ first)
-
-  pub start-final-second : b ≡ true → edition ≡ 2 → startsWith 5 ≡ recordOf (start initial (finals ∷ []) edition)
-  unfolding start startAnswer any _or_ choose recordOf numberOf pendingOf beginning
-  start-final-second t second = rw (← e, t, second)
-
-  pub start-works : b ≡ false → startsWith 6 ≡ recordOf (start initial (finals ∷ []) edition)
+module _ (initial finals edition : ℕ) (b : Bool) (e : b ≡ subset initial finals) (run : Run) where
+  pub start-works : not b ≡ true → recordIn run ≡ aloneRecord 6 → recordIn run ≡ recordOf (start initial (finals ∷ []) edition)
   unfolding start any _or_ choose recordOf numberOf pendingOf beginning
-  start-works t = rw (← e, t)
+  start-works f is = is ∙ rw (sym e ∙ not-true b f)
+
+  module _ (final : not b ≡ false) where
+    pub start-final-second : edition ≡ 2 → recordIn run ≡ aloneRecord 5 → recordIn run ≡ recordOf (start initial (finals ∷ []) edition)
+    unfolding start startAnswer any _or_ choose recordOf numberOf pendingOf beginning
+    start-final-second second is = is ∙ rw (sym e ∙ not-false b final, second)
+
+    pub start-final : (edition ≡ 2 → ⊥) → recordIn run ≡ aloneRecord 1 → recordIn run ≡ recordOf (start initial (finals ∷ []) edition)
+    unfolding start startAnswer any _or_ choose recordOf numberOf pendingOf beginning
+    start-final first is = is ∙ rw (sym e ∙ not-false b final, ne-eqb _ _ first)
 
 -- a table of which every place was cleared
 all-cleared : (before : List ℕ) → over (take 0 before ++ replicate (length before - 0) 0) before ≡ replicate (length before) 0

@@ -1,9 +1,9 @@
-use Rattle.checker.proofs.Running.{cleared-is}
+use Rattle.checker.proofs.Starting.{cleared-is}
 use borrow.Author.Needs.{needs}
-use Rattle.checker.proofs.run.clear.Statement.{statement}
-use Rattle.checker.proofs.run.clear.Tie as tie
-use Rattle.checker.proofs.run.clear.Reads as reads
-use Rattle.checker.proofs.run.clear.Lts as lts
+use Rattle.checker.proofs.calls.clear.Statement.{statement}
+use Rattle.checker.proofs.calls.clear.Tie as tie
+use Rattle.checker.proofs.calls.clear.Reads as reads
+use Rattle.checker.proofs.calls.clear.Lts as lts
 use Rattle.blockers.proofs.clear.Reads as clear-reads
 use Rattle.pending.proofs.clear.Reads as clear-reads′
 

@@ -1,0 +1,249 @@
+-- The promises of runs by steps: of a begin, of a step on whatever stands in record and tables, and of what begins and steps make, which is what 01's
+-- machine shows by as many calls. A run at once is the steps that are all given the same. Assumes nothing.
+use Prim.Native.Nat.{ℕ, zero, suc, _^_, _≤_}
+use mathlib.Core.Path.{_≡_, refl, sym, ap, subst, _∙_}
+use mathlib.Core.Bool.{Bool, true, false}
+use mathlib.Core.List.{List, _∷_, map}
+use mathlib.Core.Logic.{_⊎_, inl, inr}
+use native.Mathlib.Omega.{arith}
+use lib.ListN.{length, replicate, length-map}
+use Rattle.lists.specs.Lists.{keep}
+use Rattle.lists.proofs.Tests.{choose-true}
+use Rattle.automata.specs.Image.{Valid, check, statesOf}
+use Rattle.automata.specs.Automaton.{HoldOne}
+use Rattle.machine.specs.Machine.{Given, Outcome, Next, goesOn, ends, chain, begin}
+use Rattle.machine.specs.Runs.{Lent, Terms, Result, systemOf, givenOf, roomsOf, refused, numberOf, resultOf, checkRun, runOf}
+use Rattle.machine.specs.Records.{Stage, configurationOf, recordOf, after, shown, Called, answering, aloneRecord, beginWith, beginOf}
+use Rattle.machine.specs.Records.{broken, checkRecord, checkStep, stepOf, stepsFrom, reachedBy, unrefused, givenBy, resultFrom}
+use Rattle.machine.specs.Promises.{Unbroken, Verdict, Agreed, BeginPromises, StepPromises, StepsPromises, RunBy, atOnce, bySteps}
+use Rattle.machine.proofs.Steps.{Advanced, tried, spent as used-up, advanced}
+use Rattle.machine.proofs.Chains.{Done, AllSound, Ended, working-calls}
+use Rattle.machine.proofs.Images.{image-lawful}
+use Rattle.machine.proofs.Judging.{number-low, results-agree, ended-done, ended-rules, ended-how, ended-decides}
+use Rattle.machine.proofs.RunsKept.{given-each, given-sound, checked, run-number, refused-run, machine-run}
+use Rattle.machine.proofs.AnyRecord.{unbroken-means, lengths-same, run-first, takes-checked, checked-passed, stepped}
+use Rattle.machine.proofs.AnyRecord.{stepped-refused, stepped-finished, stepped-works, stepped-changes, stepped-takes, unworked-stays}
+use Rattle.machine.proofs.RecordSteps.{begin-shown, begin-takes, steps-shown, shown-result}
+
+module _ (image : List ℕ) (lent : Lent) (terms : Terms) where
+  begin-refuses : (checkRun image lent terms ≡ 0 → ⊥)
+      → beginOf image lent terms ≡ answering (record { tables = lent; run = aloneRecord (checkRun image lent terms) })
+  unfolding beginOf beginWith
+  begin-refuses = at (checkRun image lent terms)
+    where
+      at : (number : ℕ) → (number ≡ 0 → ⊥) → beginWith image lent (terms .edition) number ≡ answering (record { tables = lent; run = aloneRecord number })
+      at zero f = absurd (f refl)
+      at (suc number) f = refl
+
+  refused-stays : (checkRun image lent terms ≡ 0 → ⊥) → (steps : List Terms)
+      → reachedBy image lent terms steps ≡ record { tables = lent; run = aloneRecord (checkRun image lent terms) }
+  refused-stays f steps =
+      ap (λ (called : Called). stepsFrom image (called .left) steps) (begin-refuses f) ∙ unworked-stays image _ not-six steps
+    where
+      not-six : checkRun image lent terms ≡ 6 → ⊥
+      not-six six = at (run-number image lent terms)
+        where
+          at : (checkRun image lent terms ≡ 0) ⊎ (20 ≤ checkRun image lent terms) → ⊥
+          at (inl e) = f e
+          at (inr l) = omega arith
+
+  begin-begins : checkRun image lent terms ≡ 0 → beginOf image lent terms ≡ answering (shown lent (begin (systemOf image) (terms .edition)))
+  unfolding beginOf beginWith
+  begin-begins none =
+      ap (beginWith image lent (terms .edition)) none
+      ∙ ap (λ (tables : Lent). answering (record { tables = tables; run = recordOf (begin (systemOf image) (terms .edition)) }))
+      (begin-shown (systemOf image) lent (checked image lent terms none .even) (terms .edition))
+
+  pub begin-promises : BeginPromises image lent terms (beginOf image lent terms)
+  begin-promises = record {
+    refuses = begin-refuses;
+    refused-stays = λ f steps. refused-stays f steps ∙ sym (ap (λ (called : Called). called .left) (begin-refuses f));
+    begins = begin-begins;
+  }
+
+module _ (image : List ℕ) (terms : Terms) (at : Stage) where
+  run-before : (checkRun image (at .tables) terms ≡ 0 → ⊥) → checkStep image terms at ≡ checkRun image (at .tables) terms
+  unfolding checkStep
+  run-before = run-first at (checkRun image (at .tables) terms)
+
+  takes-unbroken : checkRun image (at .tables) terms ≡ 0 → Unbroken (roomsOf (at .tables)) (at .run) → checkStep image terms at ≡ 0
+  takes-unbroken none unbroken = takes-checked image terms (record { same = lengths-same (at .tables); unbroken = unbroken }) ∙ none
+
+  refuses-broken : checkRun image (at .tables) terms ≡ 0 → (Unbroken (roomsOf (at .tables)) (at .run) → ⊥) → checkStep image terms at ≡ 33
+  unfolding checkStep checkRecord check
+  refuses-broken none f = ap (checkRecord at) none ∙ by (broken (roomsOf (at .tables)) (at .run)) refl
+    where
+      by : (b : Bool) → broken (roomsOf (at .tables)) (at .run) ≡ b → check b 33 0 ≡ 33
+      by true e = refl
+      by false e = absurd (f (unbroken-means _ _ e))
+
+  -- a call whose allowance is used up makes no step
+  spent-number : {n : Next} → Advanced (systemOf image) (roomsOf (at .tables)) (givenOf image terms) (configurationOf at) n → terms .allowance ≤ at .run .steps
+      → numberOf n ≡ 2
+  unfolding numberOf
+  spent-number (tried l j) h = absurd (omega arith)
+  spent-number (used-up l) h = refl
+
+  spent : checkStep image terms at ≡ 0 → at .run .answer ≡ 6 → terms .allowance ≤ at .run .steps → stepOf image terms at .number ≡ 2
+  unfolding after recordOf
+  spent none six l =
+      ap (λ (called : Called). called .number) (stepped-works (stepped image terms at) none six)
+      ∙ spent-number (advanced (systemOf image) (roomsOf (at .tables)) (givenOf image terms) (configurationOf at)) l
+
+  taken-again : checkStep image terms at ≡ 0 → (later : Terms) → checkRun image (at .tables) later ≡ 0 → checkStep image later (stepOf image terms at .left) ≡ 0
+  taken-again e later none = takes-checked image later (stepped-takes (stepped image terms at) (checked-passed image terms at e .takes)) ∙ none
+
+  pub step-promises : StepPromises image terms at (stepOf image terms at)
+  step-promises =
+      let s = stepped image terms at in
+      record {
+        run-first = run-before;
+        takes-unbroken = takes-unbroken;
+        refuses-broken = refuses-broken;
+        refuses = stepped-refused s;
+        finished = stepped-finished s;
+        works = stepped-works s;
+        spent = spent;
+        changes = stepped-changes s;
+        taken-again = taken-again;
+      }
+
+module _ (image : List ℕ) (lent : Lent) (begun : Terms) (steps : List Terms) (none : checkRun image lent begun ≡ 0) where
+  abbrev stands : Next
+  stands = chain (systemOf image) (roomsOf lent) (begin (systemOf image) (begun .edition)) (givenBy image lent steps)
+
+  made-shows : reachedBy image lent begun steps ≡ shown lent stands
+  made-shows =
+      let even = checked image lent begun none .even in
+      ap (λ (called : Called). stepsFrom image (called .left) steps) (begin-begins image lent begun none)
+      ∙ steps-shown image lent even _ (begin (systemOf image) (begun .edition)) refl (begin-takes (systemOf image) lent even (begun .edition)) steps
+
+  made-answer : reachedBy image lent begun steps .run .answer ≡ numberOf stands
+  unfolding recordOf
+  made-answer = ap (λ (at : Stage). at .run .answer) made-shows
+
+  made-result : resultFrom (reachedBy image lent begun steps) ≡ resultOf lent stands
+  made-result = ap resultFrom made-shows ∙ shown-result lent stands
+
+  sound : AllSound (systemOf image) (givenBy image lent steps)
+  sound = given-sound image (checked image lent begun none .valid) (unrefused image lent steps)
+
+  -- after 4^(n+1) calls the machine works no more
+  works-no-more : 4 ^ suc (statesOf image) ≤ length (unrefused image lent steps) → reachedBy image lent begun steps .run .answer ≡ 6 → ⊥
+  unfolding numberOf
+  works-no-more many six = at stands refl
+    where
+      at : (n : Next) → stands ≡ n → ⊥
+      at (goesOn c) e =
+          omega (
+            arith,
+            length-map (unrefused image lent steps) (givenOf image),
+            working-calls (systemOf image) (image-lawful image (checked image lent begun none .valid)) (roomsOf lent) (begun .edition) _ sound e,
+          )
+      at (ends o) e = omega (arith, sym six ∙ made-answer ∙ ap numberOf e, number-low o)
+
+  -- where the answer is not 6 the machine has ended
+  module _ (f : reachedBy image lent begun steps .run .answer ≡ 6 → ⊥) where
+    ended : Ended stands
+    unfolding numberOf
+    ended = at stands refl
+      where
+        at : (n : Next) → stands ≡ n → Ended stands
+        at (goesOn c) e = absurd (f (made-answer ∙ ap numberOf e))
+        at (ends o) e = record { outcome = o; is = e }
+
+    ended-result : resultFrom (reachedBy image lent begun steps) ≡ resultOf lent (ends (ended .outcome))
+    ended-result = made-result ∙ ap (resultOf lent) (ended .is)
+
+  pub steps-promises : StepsPromises image lent begun steps (reachedBy image lent begun steps)
+  steps-promises =
+      let c = checked image lent begun none in
+      record {
+        shows = made-shows;
+        judged = λ f. ended-rules image lent (begun .edition) (c .valid) (c .even) sound (ended f .is) (ended-result f);
+        ended = λ f. ended-how image lent (begun .edition) (c .valid) (c .even) sound (ended f .is) (ended-result f);
+        stays = λ f. unworked-stays image (reachedBy image lent begun steps) f;
+        decides = λ f few places levels enough. ended-decides image lent (begun .edition) (c .valid) (c .even) sound (ended f .is) (ended-result f)
+            places levels (given-each image (λ given. 4 ^ suc (statesOf image) ≤ given .allowance) (unrefused image lent steps) enough);
+        works-no-more = works-no-more;
+      }
+
+-- of steps that are all given the same either each is refused or none
+same-given : (image : List ℕ) (lent : Lent) (terms : Terms) → checkRun image lent terms ≡ 0 → (count : ℕ)
+    → givenBy image lent (replicate count terms) ≡ replicate count (givenOf image terms)
+unfolding unrefused keep
+same-given image lent terms none zero = refl
+same-given image lent terms none (suc count) =
+    ap (map (givenOf image)) (choose-true _ _ (rw none)) ∙ ap (λ (later : List Given). givenOf image terms ∷ later) (same-given image lent terms none count)
+
+refused-result : (image : List ℕ) (lent : Lent) (begun : Terms) (steps : List Terms) → (checkRun image lent begun ≡ 0 → ⊥)
+    → resultFrom (reachedBy image lent begun steps) ≡ refused lent (checkRun image lent begun)
+unfolding refused
+refused-result image lent begun steps f = ap resultFrom (refused-stays image lent begun f steps)
+
+-- "The former run must equal begin, then steps."
+pub run-is-steps : (image : List ℕ) (lent : Lent) (terms : Terms)
+    → runOf image lent terms ≡ resultFrom (reachedBy image lent terms (replicate (suc (terms .allowance)) terms))
+run-is-steps image lent terms = at (run-number image lent terms)
+  where
+    equal : List Terms
+    equal = replicate (suc (terms .allowance)) terms
+
+    at : (checkRun image lent terms ≡ 0) ⊎ (20 ≤ checkRun image lent terms) → runOf image lent terms ≡ resultFrom (reachedBy image lent terms equal)
+    at (inl none) =
+        machine-run image lent terms none
+        ∙ sym (made-result image lent terms equal none
+        ∙ ap (λ (calls : List Given). resultOf lent (chain (systemOf image) (roomsOf lent) (begin (systemOf image) (terms .edition)) calls))
+        (same-given image lent terms none (suc (terms .allowance))))
+    at (inr l) = refused-run image lent terms (checkRun image lent terms) refl l ∙ sym (refused-result image lent terms equal (λ e. omega arith))
+
+-- a run that reached a verdict, at once or step by step: its image was taken, and its outcome is right
+record Reached (image : List ℕ) (lent : Lent) (edition : ℕ) (r : Result) : Type 0 where
+  valid : Valid image
+  outcome : Outcome
+  done : Done (systemOf image) (roomsOf lent) edition outcome
+  shows : r ≡ resultOf lent (ends outcome)
+
+verdict-low : {edition number : ℕ} → Verdict edition number → number ≤ 5
+verdict-low (inl l) = omega arith
+verdict-low (inr e) = omega (arith, e .1)
+
+steps-reached : (image : List ℕ) (lent : Lent) (begun : Terms) (steps : List Terms) → reachedBy image lent begun steps .run .answer ≤ 5
+    → Reached image lent (begun .edition) (resultFrom (reachedBy image lent begun steps))
+unfolding refused
+steps-reached image lent begun steps low = at (run-number image lent begun)
+  where
+    not-six : reachedBy image lent begun steps .run .answer ≡ 6 → ⊥
+    not-six six = omega arith
+
+    at : (checkRun image lent begun ≡ 0) ⊎ (20 ≤ checkRun image lent begun) → Reached image lent (begun .edition) (resultFrom (reachedBy image lent begun steps))
+    at (inl none) =
+        let c = checked image lent begun none in
+        let end = ended image lent begun steps none not-six in
+        let shows = ended-result image lent begun steps none not-six in
+        record {
+          valid = c .valid;
+          outcome = end .outcome;
+          done = ended-done image lent (begun .edition) (c .valid) (c .even) (sound image lent begun steps none) (end .is) shows;
+          shows = shows;
+        }
+    at (inr l) = absurd (omega (arith, low, l, ap (λ (r : Result). r .number) (refused-result image lent begun steps (λ e. omega arith))))
+
+reached : {image : List ℕ} {lent : Lent} {edition : ℕ} {r : Result} → RunBy image lent edition r → Verdict edition (r .number) → Reached image lent edition r
+reached {image} {lent} (bySteps begun steps) v = steps-reached image lent begun steps (verdict-low v)
+reached {image} {lent} (atOnce terms) v =
+    let same = run-is-steps image lent terms in
+    subst (Reached image lent (terms .edition)) (sym same)
+    (steps-reached image lent terms (replicate (suc (terms .allowance)) terms)
+    (verdict-low (subst (λ (r : Result). Verdict (terms .edition) (r .number)) same v)))
+
+-- two runs that reach a verdict agree, within one edition
+pub runs-agree : (image other : List ℕ) (lent lent′ : Lent) (edition : ℕ) (r s : Result) → HoldOne image other → RunBy image lent edition r
+    → RunBy other lent′ edition s → Verdict edition (r .number) → Verdict edition (s .number) → Agreed r s
+runs-agree image other lent lent′ edition r s same run run′ v v′ =
+    let one = reached run v in
+    let two = reached run′ v′ in
+    rw (one .shows, two .shows)
+    (results-agree image other lent lent′ edition (one .valid) (two .valid) same (one .done) (two .done)
+    (subst (λ (x : Result). Verdict edition (x .number)) (one .shows) v)
+    (subst (λ (x : Result). Verdict edition (x .number)) (two .shows) v′))
