@@ -187,8 +187,8 @@ module _ {image : List ℕ} {head : Head} {room : BlockerRoom} {cases symbols : 
   block-countable few =
       record {
         few-steps = few;
-        few-blocks = ready .blocks-fit;
-        few-accepted = ready .hints-fit;
+        few-blocks = ready .bounds .blocks;
+        few-accepted = ready .bounds .accepted;
         one-hint = subst (λ (made : Machine.Choice). made .hinted ≤ 1) chosen-here
             (chosen-hinted (chosen-is (systemOf image) (choicesOf image hints way) (configurationOf (stage room cases symbols run)) below X));
       }

@@ -24,7 +24,6 @@ use Rattle.checker.specs.Stage.{lentOf, recordIn, stage, wentOn, Ready}
 use Rattle.checker.specs.Calls.{recordAs, stageAs, calledAs, Cleared}
 use Rattle.checker.specs.Whole.{countsIn, resultWith}
 use Rattle.checker.proofs.Checking.{RefusedUnder, image-refuses, terms-refuse, checked-is, rooms-checked}
-use Rattle.checker.proofs.Going.{unbroken-ready}
 
 -- begin and run, by their checks
 module _ (image : List ℕ) (room : BlockerRoom) (cases symbols : List ℕ) (terms : Terms) where
@@ -134,7 +133,8 @@ module _ (image : List ℕ) (room : BlockerRoom) (cases symbols : List ℕ) (ter
           pub step-ready : run .answer ≡ 6 → Ready (stage room cases symbols run)
           step-ready six =
               let rooms = rooms-checked image room cases symbols terms read number passed none in
-              subst Ready (sym same-stage) (unbroken-ready (record { blockers = rooms .blocker-room; symbols = rooms .word-room }) (rooms .few-places) bounds)
+              subst Ready (sym same-stage)
+              (record { blocker-room = rooms .blocker-room; word-room = rooms .word-room; room-fits = rooms .few-places; bounds = bounds })
 
           pub step-goes : {room′ : BlockerRoom} {cases′ symbols′ : List ℕ} (later : Run) (left : Record)
               → stage room′ cases′ symbols′ later ≡ wentOn image (givenOf image terms) 1 (stage room cases symbols run) → recordAs left ≡ recordIn later

@@ -11,9 +11,9 @@ use Rattle.automata.specs.declared.image.Head.{Head}
 use Rattle.automata.specs.Answers.{ReadAs}
 use Rattle.machine.specs.Machine.{Given}
 use Rattle.machine.specs.Lent.{BlockerRoom}
-use Rattle.machine.specs.Runs.{Lent, Terms, systemOf, roomsOf, stepGiven, givenOf, checkRun, runOf}
+use Rattle.machine.specs.Runs.{Lent, Terms, systemOf, stepGiven, givenOf, checkRun, runOf}
 use Rattle.machine.specs.Records.{Stage, Called, workingStep, beginOf, stepWith, stepOf, stepsFrom, reachedBy, resultFrom}
-use Rattle.machine.specs.Promises.{Unbroken, BeginPromises}
+use Rattle.machine.specs.Promises.{BeginPromises}
 use Rattle.machine.proofs.Judging.{Even}
 use Rattle.machine.proofs.RunsKept.{checked, run-number}
 use Rattle.machine.proofs.AnyRecord.{SameLengths, lengths-same, Takes, takes-checked, work-takes, stepped, stepped-takes, unworked-stays}
@@ -24,31 +24,19 @@ use Rattle.checker.specs.declared.run.Counts.{Counts}
 use Rattle.checker.specs.Stage.{lentOf, termsOf, stage, wentOn, Ready}
 use Rattle.checker.specs.Whole.{countsIn, resultWith}
 
--- what a step needs, of what 33's bounds say
-pub unbroken-ready : {at : Stage} → Even (at .tables) → length (at .tables .cases) ≤ 65536 → Unbroken (roomsOf (at .tables)) (at .run) → Ready at
-unbroken-ready even few unbroken =
-    record {
-      blocker-room = even .blockers;
-      word-room = even .symbols;
-      held-fits = unbroken .held;
-      level-fits = unbroken .level;
-      pending-fits = unbroken .pending;
-      room-fits = few;
-      blocks-fit = unbroken .blocks;
-      hints-fit = unbroken .accepted;
-    }
-
--- of tables as long as those that passed
+-- what a step needs, of tables as long as those that passed
 takes-ready : {lent : Lent} {at : Stage} → Even lent → length (lent .cases) ≤ 65536 → Takes lent at → Ready at
 takes-ready {lent} {at} even few takes =
     let same = takes .same in
-    unbroken-ready
-    (record {
-      blockers = record { levels = same .masks ∙ even .blockers .levels ∙ sym (same .levels); entered = same .masks ∙ even .blockers .entered ∙ sym (same .entered) };
-      symbols = same .cases ∙ even .symbols ∙ sym (same .symbols);
-    })
-    (omega (arith, same .cases))
-    (rw (same .masks, same .cases) (takes .unbroken))
+    record {
+      blocker-room = record {
+        levels = same .masks ∙ even .blockers .levels ∙ sym (same .levels);
+        entered = same .masks ∙ even .blockers .entered ∙ sym (same .entered);
+      };
+      word-room = same .cases ∙ even .symbols ∙ sym (same .symbols);
+      room-fits = omega (arith, same .cases);
+      bounds = rw (same .masks, same .cases) (takes .unbroken);
+    }
 
 module _ (image : List ℕ) (given : Given) where
   -- a record that works goes on by its step; one that does not stays as it is
@@ -62,18 +50,10 @@ module _ (image : List ℕ) (given : Given) where
   went-nowhere (suc calls) at not =
       ap (λ (x : Stage). wentOn image given calls x) (rw (ne-eqb _ _ not)) ∙ went-nowhere calls at not
 
--- what a step of a record that works takes, the next one takes
-work-leaves : (image : List ℕ) (given : Given) {at : Stage} → Ready at → at .run .answer ≡ 6 → Takes (at .tables) (workingStep image given at)
-work-leaves image given {at} ready six =
-    work-takes image given at (record { blockers = ready .blocker-room; symbols = ready .word-room })
-    (record {
-      answer = omega arith;
-      held = ready .held-fits;
-      level = ready .level-fits;
-      pending = ready .pending-fits;
-      blocks = ready .blocks-fit;
-      accepted = ready .hints-fit;
-    })
+-- what a step of a record that works leaves, the next one takes
+work-leaves : (image : List ℕ) (given : Given) {at : Stage} → Ready at → Takes (at .tables) (workingStep image given at)
+work-leaves image given {at} ready =
+    work-takes image given at (record { blockers = ready .blocker-room; symbols = ready .word-room }) (ready .bounds)
 
 -- The loop: from `before` there were `more` steps to make behind the next one, and `left` are left.
 pub record GoesOn (image : List ℕ) (head : Head) (given : Given) (more : ℕ) (before : Stage) (left : ℕ) (at : Stage) : Type 0 where
@@ -96,7 +76,7 @@ goes-starts given more at read ready = record { read = read; ready = ready; same
 module _ {image : List ℕ} {head : Head} {given : Given} {more left : ℕ} {before at later : Stage} (goes : GoesOn image head given more before left at)
     (six : at .run .answer ≡ 6) (made : later ≡ workingStep image given at) where
   left-takes : Takes (at .tables) later
-  left-takes = subst (Takes (at .tables)) (sym made) (work-leaves image given (goes .ready six) six)
+  left-takes = subst (Takes (at .tables)) (sym made) (work-leaves image given (goes .ready six))
 
   pub goes-again : (left ≡ 0 → ⊥) → GoesOn image head given more before (left - 1) later
   goes-again some =

@@ -22,13 +22,13 @@ use Rattle.checker.specs.Stage.{recordIn, stage, Ready, leftOf, Leaves, 
 
 module _ {room : BlockerRoom} {cases symbols : List ℕ} {run : Run} (ready : Ready (stage room cases symbols run)) where
   pub ready-holds : HoldsRoom (run .held) room
-  ready-holds = even-holds (ready .blocker-room) (ready .held-fits)
+  ready-holds = even-holds (ready .blocker-room) (ready .bounds .held)
 
   pub ready-word : HoldsWord (run .pending) cases symbols
   ready-word =
       record {
-        in-cases = omega (arith, ready .pending-fits, ready .level-fits);
-        in-symbols = omega (arith, ready .pending-fits, ready .level-fits, ready .word-room);
+        in-cases = omega (arith, ready .bounds .pending, ready .bounds .level);
+        in-symbols = omega (arith, ready .bounds .pending, ready .bounds .level, ready .word-room);
       }
 
   -- the blockers stay: only the word room and the record change

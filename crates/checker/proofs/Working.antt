@@ -85,7 +85,7 @@ module _ {image : List ℕ} {head : Head} {room : BlockerRoom} {cases symbols : 
   below-is = omega (arith, pending-length cases symbols (run .pending - 1))
 
   pub below-small : run .level .0 - run .pending < 65536
-  below-small = omega (arith, ready .level-fits, ready .room-fits)
+  below-small = omega (arith, ready .bounds .level, ready .room-fits)
 
   -- the step, by the first symbol that qualifies
   first : Option ℕ
@@ -143,8 +143,8 @@ module _ {image : List ℕ} {head : Head} {room : BlockerRoom} {cases symbols : 
               absurd (neg-fails _ bottom (or-right _ _ (fails-neg _ free)))
           at (suc under) e =
               record {
-                in-cases = omega (arith, ready .level-fits);
-                in-symbols = omega (arith, ready .level-fits, ready .word-room);
+                in-cases = omega (arith, ready .bounds .level);
+                in-symbols = omega (arith, ready .bounds .level, ready .word-room);
               }
 
       module _ {cases′ symbols′ : List ℕ} {r : Run} where

@@ -12,6 +12,7 @@ use Rattle.machine.specs.Machine.{Pending, Configuration, Given, Step, judge, w
 use Rattle.machine.specs.Lent.{BlockerRoom, EvenRoom, columnBack, caseOf, symbolOf, placed}
 use Rattle.machine.specs.Runs.{Lent, Terms, systemOf, roomsOf, stepGiven}
 use Rattle.machine.specs.Records.{RunRecord, Stage, configurationOf, after, workingStep}
+use Rattle.machine.specs.Promises.{Unbroken}
 use Rattle.blockers.specs.Room.{tableOf, Placed}
 use Rattle.closing.specs.Close.{isEmpty, emptyLevel, closedBy}
 use Rattle.checker.specs.declared.record.Run.{Run}
@@ -57,17 +58,12 @@ unfoldable pub blockOf : List ℕ → List ℕ → ℕ → List Pending → ℕ 
 blockOf image hints way rest below X c =
     blockStep (initialOf image) (finalOf image ∷ []) c rest below (chosen (systemOf image) (choicesOf image hints way) c below X)
 
--- What a step needs of the tables and the record: the places in use are there, the rooms' tables are of one length and have at most 65,536 places, no
--- more cases are pending than there are levels, and no more blocks or hints accepted than steps.
+-- What a step needs of the tables and the record: the rooms' tables are of one length, the word room has at most 65,536 places, and 33 does not refuse it.
 pub record Ready (at : Stage) : Type 0 where
   pub blocker-room : EvenRoom (at .tables .room)
   pub word-room : length (at .tables .cases) ≡ length (at .tables .symbols)
-  pub held-fits : at .run .held ≤ length (at .tables .room .masks)
-  pub level-fits : at .run .level ≤ length (at .tables .cases)
-  pub pending-fits : at .run .pending ≤ at .run .level
   pub room-fits : length (at .tables .cases) ≤ 65536
-  pub blocks-fit : at .run .blocks ≤ at .run .steps
-  pub hints-fit : at .run .accepted ≤ at .run .steps
+  pub bounds : Unbroken (roomsOf (at .tables)) (at .run)
 
 -- the record with this answer and so many cases pending
 abbrev pub leftOf : Run → ℕ → ℕ → Run
