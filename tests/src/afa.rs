@@ -7,6 +7,54 @@ use crate::fault;
 use crate::guarded::{ReadOnly, Writable, EDGES};
 use std::slice;
 
+/// Calls a function of runs on the image, the rooms and the hints, each with its length, and on what else
+/// it takes.
+macro_rules! on_slices {
+    ($function:path, $image:ident, $rooms:ident, $terms:ident, $($more:expr),+ $(,)?) => {
+        $function(
+            $image.as_ptr(),
+            $image.len(),
+            $rooms.masks.as_mut_ptr(),
+            $rooms.masks.len(),
+            $rooms.levels.as_mut_ptr(),
+            $rooms.levels.len(),
+            $rooms.entered.as_mut_ptr(),
+            $rooms.entered.len(),
+            $rooms.cases.as_mut_ptr(),
+            $rooms.cases.len(),
+            $rooms.symbols.as_mut_ptr(),
+            $rooms.symbols.len(),
+            $terms.hints.as_ptr(),
+            $terms.hints.len(),
+            $($more),+
+        )
+    };
+}
+
+/// The same on rooms and hints of these lengths that may not be touched.
+macro_rules! on_untouchable {
+    ($function:path, $image:ident, $lengths:ident, $memory:ident, $edge:ident, $($more:expr),+ $(,)?) => {{
+        let [masks, levels, entered, cases, symbols, hints] = $lengths;
+        $function(
+            $image.as_ptr(),
+            $image.len(),
+            $memory.lend(masks, $edge),
+            masks,
+            $memory.lend(levels, $edge),
+            levels,
+            $memory.lend(entered, $edge),
+            entered,
+            $memory.lend(cases, $edge),
+            cases,
+            $memory.lend(symbols, $edge),
+            symbols,
+            $memory.lend(hints, $edge),
+            hints,
+            $($more),+
+        )
+    }};
+}
+
 mod lent;
 pub mod print;
 pub mod run;

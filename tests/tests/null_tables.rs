@@ -52,17 +52,45 @@ fn pointer_mut<T>(slice: &mut [T]) -> *mut T {
     }
 }
 
-/// A run with rooms of these lengths and on these terms, each table and the hints null if empty, against
-/// the machine.
-fn expect(image: &[u8], lengths: [usize; 5], terms: Terms<&[u64]>, numbers: [u64; 5]) {
-    let [masks, levels, entered, cases, symbols] = lengths;
-    let before = Tables {
+/// Calls a function of runs on the image, the tables and the hints, each null if empty, and on what else it
+/// takes.
+macro_rules! on_tables {
+    ($function:path, $image:ident, $tables:ident, $terms:ident, $($more:expr),+ $(,)?) => {
+        $function(
+            pointer($image),
+            $image.len(),
+            pointer_mut(&mut $tables.masks),
+            $tables.masks.len(),
+            pointer_mut(&mut $tables.levels),
+            $tables.levels.len(),
+            pointer_mut(&mut $tables.entered),
+            $tables.entered.len(),
+            pointer_mut(&mut $tables.cases),
+            $tables.cases.len(),
+            pointer_mut(&mut $tables.symbols),
+            $tables.symbols.len(),
+            pointer($terms.hints),
+            $terms.hints.len(),
+            $($more),+
+        )
+    };
+}
+
+/// Tables of these lengths with 9 in every place.
+fn nines([masks, levels, entered, cases, symbols]: [usize; 5]) -> Tables {
+    Tables {
         masks: vec![9; masks],
         levels: vec![9; levels],
         entered: vec![9; entered],
         cases: vec![9; cases],
         symbols: vec![9; symbols],
-    };
+    }
+}
+
+/// A run with rooms of these lengths and on these terms, each table and the hints null if empty, against
+/// the machine.
+fn expect(image: &[u8], lengths: [usize; 5], terms: Terms<&[u64]>, numbers: [u64; 5]) {
+    let before = nines(lengths);
     let mut expected = before.clone();
     let answer = machine::run(image, expected.lend(), terms);
     let known = Answer::of_numbers(numbers);
@@ -71,21 +99,11 @@ fn expect(image: &[u8], lengths: [usize; 5], terms: Terms<&[u64]>, numbers: [u64
     let mut counts = [7; 4];
     // SAFETY: what is null has no elements, and the rest as many as it says.
     let number = unsafe {
-        afa_run(
-            pointer(image),
-            image.len(),
-            pointer_mut(&mut tables.masks),
-            masks,
-            pointer_mut(&mut tables.levels),
-            levels,
-            pointer_mut(&mut tables.entered),
-            entered,
-            pointer_mut(&mut tables.cases),
-            cases,
-            pointer_mut(&mut tables.symbols),
-            symbols,
-            pointer(terms.hints),
-            terms.hints.len(),
+        on_tables!(
+            afa_run,
+            image,
+            tables,
+            terms,
             terms.allowance,
             terms.edition,
             terms.way,
@@ -158,34 +176,17 @@ fn run() {
 /// A begin with rooms of these lengths, and then steps of what it leaves, each table and the hints null if
 /// empty, against the machine. The last step's record is the one said.
 fn expect_steps(image: &[u8], lengths: [usize; 5], terms: Terms<&[u64]>, numbers: [u64; 8]) {
-    let [masks, levels, entered, cases, symbols] = lengths;
-    let mut tables = Tables {
-        masks: vec![9; masks],
-        levels: vec![9; levels],
-        entered: vec![9; entered],
-        cases: vec![9; cases],
-        symbols: vec![9; symbols],
-    };
+    let mut tables = nines(lengths);
     let mut expected = tables.clone();
     let mut expected_record = machine::begin(image, expected.lend(), terms);
     let mut record = [7; 8];
     // SAFETY: what is null has no elements, the rest as many as it says, and the record eight.
     let mut number = unsafe {
-        afa_begin(
-            pointer(image),
-            image.len(),
-            pointer_mut(&mut tables.masks),
-            masks,
-            pointer_mut(&mut tables.levels),
-            levels,
-            pointer_mut(&mut tables.entered),
-            entered,
-            pointer_mut(&mut tables.cases),
-            cases,
-            pointer_mut(&mut tables.symbols),
-            symbols,
-            pointer(terms.hints),
-            terms.hints.len(),
+        on_tables!(
+            afa_begin,
+            image,
+            tables,
+            terms,
             terms.edition,
             terms.way,
             record.as_mut_ptr(),
@@ -204,21 +205,11 @@ fn expect_steps(image: &[u8], lengths: [usize; 5], terms: Terms<&[u64]>, numbers
         expected_number = machine::step(image, expected.lend(), terms, &mut expected_record);
         // SAFETY: as above.
         number = unsafe {
-            afa_step(
-                pointer(image),
-                image.len(),
-                pointer_mut(&mut tables.masks),
-                masks,
-                pointer_mut(&mut tables.levels),
-                levels,
-                pointer_mut(&mut tables.entered),
-                entered,
-                pointer_mut(&mut tables.cases),
-                cases,
-                pointer_mut(&mut tables.symbols),
-                symbols,
-                pointer(terms.hints),
-                terms.hints.len(),
+            on_tables!(
+                afa_step,
+                image,
+                tables,
+                terms,
                 terms.allowance,
                 terms.edition,
                 terms.way,

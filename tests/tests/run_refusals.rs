@@ -4,11 +4,11 @@ use afa_tests::afa::run::run_untouchable;
 use afa_tests::compare::run::Comparison;
 use afa_tests::damage::damage;
 use afa_tests::generate;
-use afa_tests::generate::runs::{run_model, unknown_edition, unknown_way};
+use afa_tests::generate::runs::{choices, run_model};
 use afa_tests::guarded::{Untouchable, EDGES};
 use afa_tests::image::{broken_model_c, model_c, Model};
 use afa_tests::random::Random;
-use afa_tests::tables::{Answer, Lent, Tables, Terms, CHOICES, EDITIONS, WAYS};
+use afa_tests::tables::{Answer, Lent, Tables, Terms, EDITIONS, WAYS};
 
 /// Lengths of masks, levels, entered, cases, symbols and hints, and the number that they give on a valid
 /// image.
@@ -74,21 +74,6 @@ fn lent(random: &mut Random, lengths: [usize; 6], [edition, way]: [u64; 2]) -> L
             way,
         },
     }
-}
-
-/// Each edition with each way that there is, and such as there are not with the number that they give.
-fn choices(random: &mut Random) -> [([u64; 2], Option<u64>); 7] {
-    let (edition, way) = (random.pick(&EDITIONS), random.pick(&WAYS));
-    let [plain, edition_2, way_1, both] = CHOICES.map(|choice| (choice, None));
-    [
-        plain,
-        edition_2,
-        way_1,
-        both,
-        ([unknown_edition(random), way], Some(36)),
-        ([unknown_edition(random), unknown_way(random)], Some(36)),
-        ([edition, unknown_way(random)], Some(37)),
-    ]
 }
 
 fn expect_refused(comparison: &mut Comparison, image: &[u8], lent: &Lent, number: u64) {

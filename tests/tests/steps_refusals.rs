@@ -6,12 +6,12 @@ use afa_tests::afa::step::{begin_untouchable, step_untouchable};
 use afa_tests::compare::steps::{Comparison, Standing};
 use afa_tests::damage::damage;
 use afa_tests::generate::records::{invented, terms_for, ODD_OPEN};
-use afa_tests::generate::runs::{run_model, run_model_of, unknown_edition, unknown_way};
+use afa_tests::generate::runs::{choices, run_model, run_model_of, unknown_edition, unknown_way};
 use afa_tests::guarded::{Untouchable, EDGES};
 use afa_tests::image::{broken_model_c, model_a, model_c, model_d};
 use afa_tests::random::Random;
 use afa_tests::record::Record;
-use afa_tests::tables::{Tables, Terms, CHOICES, EDITIONS, WAYS};
+use afa_tests::tables::{Tables, Terms, CHOICES};
 
 /// Lengths of masks, levels, entered, cases, symbols and hints, and the number that they give on a valid
 /// image.
@@ -34,21 +34,6 @@ const LENGTHS: [([usize; 6], Option<u64>); 16] = [
     ([4, 4, 5, 4, 4, 65_537], Some(30)),
     ([65_536, 65_537, 65_536, 4, 4, 0], Some(30)),
 ];
-
-/// Each edition with each way that there is, and such as there are not with the number that they give.
-fn choices(random: &mut Random) -> [([u64; 2], Option<u64>); 7] {
-    let (edition, way) = (random.pick(&EDITIONS), random.pick(&WAYS));
-    let [plain, edition_2, way_1, both] = CHOICES.map(|choice| (choice, None));
-    [
-        plain,
-        edition_2,
-        way_1,
-        both,
-        ([unknown_edition(random), way], Some(36)),
-        ([unknown_edition(random), unknown_way(random)], Some(36)),
-        ([edition, unknown_way(random)], Some(37)),
-    ]
-}
 
 fn terms(random: &mut Random, hints: usize, [edition, way]: [u64; 2]) -> Terms {
     Terms {

@@ -120,11 +120,9 @@ module _ (image : List ℕ) (room : BlockerRoom) (cases symbols : List ℕ) (ter
         bounds : Unbroken (record { blockers = length (room .masks); word = length cases }) (recordAs before)
         bounds = unbroken-means _ (recordAs before) (sym is ∙ whole)
 
-        pub answer-few : before .answer ≤ 6
-        answer-few = bounds .answer
-
-        pub level-few : before .level ≤ 65536
-        level-few = omega (arith, bounds .level, rooms-checked image room cases symbols terms read number passed none .few-places)
+        -- so the record can be read as a run
+        pub fits-run : (before .answer ≤ 6) × (before .level ≤ 65536)
+        fits-run = (bounds .answer, omega (arith, bounds .level, rooms-checked image room cases symbols terms read number passed none .few-places))
 
         module _ (run : Run) (same : recordIn run ≡ recordAs before) where
           same-stage : stage room cases symbols run ≡ stageAs room cases symbols before

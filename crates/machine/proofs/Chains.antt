@@ -17,10 +17,10 @@ use Rattle.masks.specs.Sets.{subset}
 use Rattle.machine.specs.System.{System}
 use Rattle.machine.specs.Machine.{Configuration, Given, Rooms, beginning, Step, step}
 use Rattle.machine.specs.Machine.{Next, goesOn, ends, comesTo, judge, advance, chain, startAnswer, start, begin, Outcome, nonempty, startsFinal}
-use Rattle.machine.specs.Meaning.{Lacks, EndedBy, raise, Raised, raisedNone, raisedOne}
+use Rattle.machine.specs.Meaning.{Lacks, EndingCall, EndedBy, raise, Raised, raisedNone, raisedOne}
 use Rattle.machine.proofs.Language.{accepts, Lawful, Sound, Decided, decidedNonempty, decidedAtStart, IsVerdict, AnswersStart}
 use Rattle.machine.proofs.Steps.{Judged, roomToOpen, extended, roomToBlock, closed, found, emptied, noRoomToOpen, noRoomToBlock}
-use Rattle.machine.proofs.Steps.{Advanced, tried, spent, advanced, advanced-counts, advance-made, EndingCall, step-raised}
+use Rattle.machine.proofs.Steps.{Advanced, tried, spent, advanced, advanced-counts, advance-made, step-raised}
 use Rattle.machine.proofs.Steps.{chain-keeps, ended-stays, chain-ended-by, works-or-ended, works-once, ends-once, madeBy, step-counts}
 use Rattle.machine.proofs.Invariant.{FinalsClear, beginning-holds}
 use Rattle.machine.proofs.Verdicts.{Holds, RightAnswer, clear-finals, start-accepts, clear-start, start-found, advanced-right}
@@ -279,14 +279,8 @@ module _ (S : System) (lawful : Lawful S) (rooms : Rooms) (edition : ℕ) where
           → (begin S edition ≡ ends outcome) ⊎ EndedBy S rooms edition given outcome
       at (inl q) = inl q
       at (inr by) = inr (record {
-        before = by .before;
-        last = by .last;
-        later = by .later;
-        at = by .at;
-        split = by .split;
-        works = by .reached;
+        call = by;
         counted = working-steps S rooms edition (by .before) (by .reached);
-        ended = by .ended;
         lacks = advanced-lacks S rooms (ended-working sound by .counted) (ended-advanced S rooms by);
       })
 

@@ -3,7 +3,7 @@
 use Prim.Native.Nat.{ℕ, suc, _-_, _≤_, _<_}
 use mathlib.Core.Path.{_≡_, refl, sym, ap, subst, _∙_}
 use mathlib.Core.Bool.{Bool, true, false}
-use mathlib.Core.List.{List, [], _∷_, _++_}
+use mathlib.Core.List.{List, [], _∷_}
 use mathlib.Core.Logic.{_⊎_, inl, inr}
 use mathlib.Core.Option.{Option, none, some}
 use native.Mathlib.Omega.{arith}
@@ -21,7 +21,7 @@ use Rattle.machine.specs.Machine.{Step, opens, extends, blocks, closes, 
 use Rattle.machine.specs.Machine.{qualifies, chosen, riseLevels, noneAt, openStep, extendStep, blockStep, closeWith, closeStep}
 use Rattle.machine.specs.Machine.{workOn, workStep, stepOn, step, Next, goesOn, ends, judge, advance, chain}
 use Rattle.machine.specs.Machine.{Outcome, nonempty, empty, stepsLack, blockersLack, wordLacks}
-use Rattle.machine.specs.Meaning.{raise}
+use Rattle.machine.specs.Meaning.{EndingCall, raise}
 
 -- one below the level of the case that waits before `rest`
 abbrev pub under : Configuration → List Pending → ℕ
@@ -175,16 +175,6 @@ ends-once {o} e = ap (outcomeIn o) e
 pub data Advanced (S : System) (rooms : Rooms) (given : Given) (c : Configuration) : Next → Type 0 where
   tried : {n : Next} → c .steps < given .allowance → Judged rooms c (step S given c) n → Advanced S rooms given c n
   spent : given .allowance ≤ c .steps → Advanced S rooms given c (ends (stepsLack c))
-
--- The call that ended a chain: the calls before it left the machine working in `at`, and it ended there; those after it changed nothing.
-pub record EndingCall (S : System) (rooms : Rooms) (start : Next) (given : List Given) (outcome : Outcome) : Type 0 where
-  pub before : List Given
-  pub last : Given
-  pub later : List Given
-  pub at : Configuration
-  pub split : given ≡ before ++ last ∷ later
-  pub reached : chain S rooms start before ≡ goesOn at
-  pub ended : advance S rooms last (goesOn at) ≡ ends outcome
 
 module _ (S : System) (rooms : Rooms) where
   -- each call of a working run comes out so

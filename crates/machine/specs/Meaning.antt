@@ -8,7 +8,7 @@ use lib.ListN.{length}
 use Rattle.lists.specs.Lists.{_∈_, Each}
 use Rattle.masks.specs.Sets.{subset}
 use Rattle.machine.specs.System.{System}
-use Rattle.machine.specs.Machine.{Blocker, Configuration, Given, Rooms, Step, opens, blocks, step, goesOn, ends, advance, chain, begin}
+use Rattle.machine.specs.Machine.{Blocker, Configuration, Given, Rooms, Step, opens, blocks, step, Next, goesOn, ends, advance, chain, begin}
 use Rattle.machine.specs.Machine.{Outcome, nonempty, empty, stepsLack, blockersLack, wordLacks, startsFinal}
 
 -- the case is a subset of one of the blockers
@@ -50,18 +50,21 @@ Lacks S rooms given c startsFinal = ⊥
 abbrev pub WorksIn : System → Rooms → ℕ → List Given → Configuration → Type 0
 WorksIn S rooms edition calls c = chain S rooms (begin S edition) calls ≡ goesOn c
 
--- the call that ended a run: those before it, of which each made a step, left the machine working in `at`, and it ended the run there; without a verdict this
--- is what it lacked
-pub record EndedBy (S : System) (rooms : Rooms) (edition : ℕ) (calls : List Given) (outcome : Outcome) : Type 0 where
+-- The call that ended a chain of calls: those before it left the machine working in `at`, and it ended there; those after it changed nothing.
+pub record EndingCall (S : System) (rooms : Rooms) (start : Next) (calls : List Given) (outcome : Outcome) : Type 0 where
   pub before : List Given
   pub last : Given
   pub later : List Given
   pub at : Configuration
   pub split : calls ≡ before ++ last ∷ later
-  pub works : WorksIn S rooms edition before at
-  pub counted : at .steps ≡ length before
+  pub reached : chain S rooms start before ≡ goesOn at
   pub ended : advance S rooms last (goesOn at) ≡ ends outcome
-  pub lacks : Lacks S rooms last at outcome
+
+-- the call that ended a run: each of those before it made a step, and without a verdict this is what it lacked
+pub record EndedBy (S : System) (rooms : Rooms) (edition : ℕ) (calls : List Given) (outcome : Outcome) : Type 0 where
+  pub call : EndingCall S rooms (begin S edition) calls outcome
+  pub counted : call .at .steps ≡ length (call .before)
+  pub lacks : Lacks S rooms (call .last) (call .at) outcome
 
 -- the same with another allowance
 abbrev pub raise : ℕ → Given → Given

@@ -36,21 +36,11 @@ pub mod interface {
 pub fn run(image: &[u8], rooms: Rooms, terms: Terms<&[u64]>, counts: &mut [u64; 4]) -> u64 {
     // SAFETY: the pointers are to as many values as the lengths say.
     unsafe {
-        interface::afa_run(
-            image.as_ptr(),
-            image.len(),
-            rooms.masks.as_mut_ptr(),
-            rooms.masks.len(),
-            rooms.levels.as_mut_ptr(),
-            rooms.levels.len(),
-            rooms.entered.as_mut_ptr(),
-            rooms.entered.len(),
-            rooms.cases.as_mut_ptr(),
-            rooms.cases.len(),
-            rooms.symbols.as_mut_ptr(),
-            rooms.symbols.len(),
-            terms.hints.as_ptr(),
-            terms.hints.len(),
+        on_slices!(
+            interface::afa_run,
+            image,
+            rooms,
+            terms,
             terms.allowance,
             terms.edition,
             terms.way,
@@ -69,7 +59,6 @@ pub fn run_untouchable(
     edge: Edge,
     counts: &mut [u64; 4],
 ) -> u64 {
-    let [masks, levels, entered, cases, symbols, hints] = lengths;
     let shown = lengths.map(usize::to_be_bytes);
     let lent: [fault::Lent; 4] = [
         ("image", image),
@@ -83,21 +72,12 @@ pub fn run_untouchable(
     // SAFETY: the pointers are to as many values as the lengths say; whoever touches them ends in a
     // signal, which is what is tested.
     fault::on_record("afa_run", &lent, || unsafe {
-        interface::afa_run(
-            image.as_ptr(),
-            image.len(),
-            memory.lend(masks, edge),
-            masks,
-            memory.lend(levels, edge),
-            levels,
-            memory.lend(entered, edge),
-            entered,
-            memory.lend(cases, edge),
-            cases,
-            memory.lend(symbols, edge),
-            symbols,
-            memory.lend(hints, edge),
-            hints,
+        on_untouchable!(
+            interface::afa_run,
+            image,
+            lengths,
+            memory,
+            edge,
             100,
             edition,
             way,

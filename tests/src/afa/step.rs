@@ -56,21 +56,11 @@ pub mod interface {
 pub fn begin(image: &[u8], rooms: Rooms, terms: Terms<&[u64]>, record: &mut [u64; 8]) -> u64 {
     // SAFETY: the pointers are to as many values as the lengths say, and to eight numbers.
     unsafe {
-        interface::afa_begin(
-            image.as_ptr(),
-            image.len(),
-            rooms.masks.as_mut_ptr(),
-            rooms.masks.len(),
-            rooms.levels.as_mut_ptr(),
-            rooms.levels.len(),
-            rooms.entered.as_mut_ptr(),
-            rooms.entered.len(),
-            rooms.cases.as_mut_ptr(),
-            rooms.cases.len(),
-            rooms.symbols.as_mut_ptr(),
-            rooms.symbols.len(),
-            terms.hints.as_ptr(),
-            terms.hints.len(),
+        on_slices!(
+            interface::afa_begin,
+            image,
+            rooms,
+            terms,
             terms.edition,
             terms.way,
             record.as_mut_ptr(),
@@ -82,21 +72,11 @@ pub fn begin(image: &[u8], rooms: Rooms, terms: Terms<&[u64]>, record: &mut [u64
 pub fn step(image: &[u8], rooms: Rooms, terms: Terms<&[u64]>, record: &mut [u64; 8]) -> u64 {
     // SAFETY: the pointers are to as many values as the lengths say, and to eight numbers.
     unsafe {
-        interface::afa_step(
-            image.as_ptr(),
-            image.len(),
-            rooms.masks.as_mut_ptr(),
-            rooms.masks.len(),
-            rooms.levels.as_mut_ptr(),
-            rooms.levels.len(),
-            rooms.entered.as_mut_ptr(),
-            rooms.entered.len(),
-            rooms.cases.as_mut_ptr(),
-            rooms.cases.len(),
-            rooms.symbols.as_mut_ptr(),
-            rooms.symbols.len(),
-            terms.hints.as_ptr(),
-            terms.hints.len(),
+        on_slices!(
+            interface::afa_step,
+            image,
+            rooms,
+            terms,
             terms.allowance,
             terms.edition,
             terms.way,
@@ -115,7 +95,6 @@ pub fn begin_untouchable(
     edge: Edge,
     record: &mut [u64; 8],
 ) -> u64 {
-    let [masks, levels, entered, cases, symbols, hints] = lengths;
     let shown = lengths.map(usize::to_be_bytes);
     let lent: [fault::Lent; 4] = [
         ("image", image),
@@ -129,21 +108,12 @@ pub fn begin_untouchable(
     // SAFETY: the pointers are to as many values as the lengths say; whoever touches them ends in a
     // signal, which is what is tested.
     fault::on_record("afa_begin", &lent, || unsafe {
-        interface::afa_begin(
-            image.as_ptr(),
-            image.len(),
-            memory.lend(masks, edge),
-            masks,
-            memory.lend(levels, edge),
-            levels,
-            memory.lend(entered, edge),
-            entered,
-            memory.lend(cases, edge),
-            cases,
-            memory.lend(symbols, edge),
-            symbols,
-            memory.lend(hints, edge),
-            hints,
+        on_untouchable!(
+            interface::afa_begin,
+            image,
+            lengths,
+            memory,
+            edge,
             edition,
             way,
             record.as_mut_ptr(),
@@ -160,7 +130,6 @@ pub fn step_untouchable(
     edge: Edge,
     record: &mut [u64; 8],
 ) -> u64 {
-    let [masks, levels, entered, cases, symbols, hints] = lengths;
     let shown = lengths.map(usize::to_be_bytes);
     let before = record.map(u64::to_be_bytes);
     let lent: [fault::Lent; 5] = [
@@ -176,21 +145,12 @@ pub fn step_untouchable(
     // SAFETY: the pointers are to as many values as the lengths say; whoever touches them ends in a
     // signal, which is what is tested.
     fault::on_record("afa_step", &lent, || unsafe {
-        interface::afa_step(
-            image.as_ptr(),
-            image.len(),
-            memory.lend(masks, edge),
-            masks,
-            memory.lend(levels, edge),
-            levels,
-            memory.lend(entered, edge),
-            entered,
-            memory.lend(cases, edge),
-            cases,
-            memory.lend(symbols, edge),
-            symbols,
-            memory.lend(hints, edge),
-            hints,
+        on_untouchable!(
+            interface::afa_step,
+            image,
+            lengths,
+            memory,
+            edge,
             100,
             edition,
             way,

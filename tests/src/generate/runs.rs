@@ -7,7 +7,7 @@ use super::{
 use crate::image::Model;
 use crate::machine::{observed_run, run_without_entered, Event};
 use crate::random::Random;
-use crate::tables::{Answer, Lent, Tables, Terms, EDITIONS, WAYS};
+use crate::tables::{Answer, Lent, Tables, Terms, CHOICES, EDITIONS, WAYS};
 
 pub fn run_model(random: &mut Random) -> Model {
     if random.below(1_000) == 0 {
@@ -102,6 +102,21 @@ pub fn unknown_way(random: &mut Random) -> u64 {
         4 | 5 => known | random.number() << random.pick(&[8, 16, 32]) | 1 << 63,
         _ => random.number() | 2,
     }
+}
+
+/// Each edition with each way that there is, and such as there are not with the number that they give.
+pub fn choices(random: &mut Random) -> [([u64; 2], Option<u64>); 7] {
+    let (edition, way) = (random.pick(&EDITIONS), random.pick(&WAYS));
+    let [plain, edition_2, way_1, both] = CHOICES.map(|choice| (choice, None));
+    [
+        plain,
+        edition_2,
+        way_1,
+        both,
+        ([unknown_edition(random), way], Some(36)),
+        ([unknown_edition(random), unknown_way(random)], Some(36)),
+        ([edition, unknown_way(random)], Some(37)),
+    ]
 }
 
 /// A number of steps that does not take long: a block tries each state with each row.

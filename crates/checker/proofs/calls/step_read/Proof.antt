@@ -1,4 +1,4 @@
-use Rattle.checker.proofs.Calling.{step-refuses-terms, step-breaks, answer-few, level-few, step-ready, step-goes}
+use Rattle.checker.proofs.Calling.{step-refuses-terms, step-breaks, fits-run, step-ready, step-goes}
 use Rattle.checker.specs.Stage.{termsOf}
 use borrow.Author.Needs.{needs}
 use Rattle.checker.proofs.calls.step_read.Statement.{statement}
@@ -57,7 +57,7 @@ returns-2 : tie.Need-returns-2
 returns-2 c = step-breaks _ _ _ _ _ _ (c .before .before .before .before .before .before .before .before .before .before .before .before .before .before .before .before .pre) _ (c .before .before .before .check-terms .ensures) (c .before .before .if1 .left) (c .before .broken .ensures) (search needs)
 
 to-run-requires : tie.Need-to-run-requires
-to-run-requires c κs = (answer-few _ _ _ _ (termsOf _ 0 _ _) _ (c .before .before .before .before .before .before .before .before .before .before .before .before .before .before .before .before .pre) _ (c .before .before .before .check-terms .ensures) (c .before .before .if1 .left) (c .before .broken .ensures) (c .if2 .left), level-few _ _ _ _ (termsOf _ 0 _ _) _ (c .before .before .before .before .before .before .before .before .before .before .before .before .before .before .before .before .pre) _ (c .before .before .before .check-terms .ensures) (c .before .before .if1 .left) (c .before .broken .ensures) (c .if2 .left))
+to-run-requires c κs = fits-run _ _ _ _ (termsOf _ 0 _ _) _ (c .before .before .before .before .before .before .before .before .before .before .before .before .before .before .before .before .pre) _ (c .before .before .before .check-terms .ensures) (c .before .before .if1 .left) (c .before .broken .ensures) (c .if2 .left)
 
 go-on-requires : tie.Need-go-on-requires
 go-on-requires c κs = (c .before .before .before .before .before .before .before .before .before .before .before .before .before .before .before .before .before .before .before .before .before .before .pre, step-ready _ _ _ _ (termsOf _ 0 _ _) _ (c .before .before .before .before .before .before .before .before .before .before .before .before .before .before .before .before .before .before .before .before .before .before .pre) _ (c .before .before .before .before .before .before .before .before .before .check-terms .ensures) (c .before .before .before .before .before .before .before .before .if1 .left) (c .before .before .before .before .before .before .before .broken .ensures) (c .before .before .before .before .before .before .if2 .left) _ (c .before .before .before .before .before .to-run .ensures))
