@@ -53,16 +53,18 @@ uint64_t afa_print_run(const uint8_t *image, size_t image_len,
    and the word. The tables of a room have one length. 0 is empty, and masks
    begin with the frame; 1 is nonempty, and symbols begin with a shortest word,
    whose length is the level; 2, 3 and 4 are a run that stopped for want of
-   steps, blocker room or word room; 20 to 27, 30, 31, 36 and 37 are refusals,
-   and leave every table as it was. edition is 1 or 2, any other is refused
-   under 36. They differ only where the initial case is final already, so that
-   the empty word is accepted: 1 answers 1 with that word; 2 answers 5, with 0
-   in counts and in every place of the tables. way is 0 or 1, any other is
-   refused under 37. It says how blockers are grown where no hint is taken: 0
-   state by state, 1 through a hitting set. Steps and blockers differ, verdicts
-   and the lengths of words do not. entered has for each blocker held the count
-   of steps including the block that made it, and 0 after them. counts has
-   steps, level, blockers held and hints accepted, all 0 where refused. */
+   steps, blocker room or word room: after 2 and 3 no accepted word is shorter
+   than the level, after 4 none is as long as cases has places, or shorter; 20
+   to 27, 30, 31, 36 and 37 are refusals, and leave every table as it was.
+   edition is 1 or 2, any other is refused under 36. They differ only where the
+   initial case is final already, so that the empty word is accepted: 1 answers
+   1 with that word; 2 answers 5, with 0 in counts and in every place of the
+   tables. way is 0 or 1, any other is refused under 37. It says how blockers
+   are grown where no hint is taken: 0 state by state, 1 through a hitting set.
+   Steps and blockers differ, verdicts and the lengths of words do not. entered
+   has for each blocker held the count of steps including the block that made
+   it, and 0 after them. counts has steps, level, blockers held and hints
+   accepted, all 0 where refused. */
 uint64_t afa_run(const uint8_t *image, size_t image_len,
                  uint64_t *masks, size_t masks_len,
                  uint32_t *levels, size_t levels_len,
@@ -104,13 +106,14 @@ uint64_t afa_begin(const uint8_t *image, size_t image_len,
    4 where the run has ended and the tables hold what afa_run leaves in them.
    edition is checked, and that of the begin holds. Steps from an afa_begin on,
    on one image and in the same tables, that are all given the same are the run
-   that afa_run makes; if hints, ways or allowances differ from step to step,
-   verdict and length of the word are still those of afa_run. Any record that
-   is not refused is stepped, made by afa_begin or not, for the places in use
-   as they stand: the first of masks, levels and entered, as many as are held,
-   and the first of cases and symbols, as many as are pending. Places that a
-   step frees become 0, and all others stay. open is 0 or 1, and any other
-   number is read as 1. */
+   that afa_run makes. If hints, ways or allowances differ from step to step,
+   verdict and length of the word are still those of afa_run; 2, 3 and 4 have
+   shown what they show after afa_run; and while the answer is 6, no accepted
+   word is shorter than record's level. Any record that is not refused is
+   stepped, made by afa_begin or not, for the places in use as they stand: the
+   first of masks, levels and entered, as many as are held, and the first of
+   cases and symbols, as many as are pending. Places that a step frees become
+   0, and all others stay. open is 0 or 1, any other number is read as 1. */
 uint64_t afa_step(const uint8_t *image, size_t image_len,
                   uint64_t *masks, size_t masks_len,
                   uint32_t *levels, size_t levels_len,

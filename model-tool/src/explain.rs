@@ -43,7 +43,8 @@ pub fn explain(model: &Model, output: &str) -> Result<Explanation, String> {
         0 => empty(model, &answer, &second)?,
         1 => nonempty(model, &answer, &second)?,
         _ if !second.is_empty() => return Err("line 2: expected an empty line".to_owned()),
-        _ => no_verdict(answer.number)?,
+        2..=4 => stopped(&answer),
+        number => refused(number)?,
     };
     Ok(Explanation {
         sentences: format!("{verdict}\n{}\n", counts(&answer)),
@@ -106,15 +107,26 @@ fn nonempty(model: &Model, answer: &Answer, word: &[u64]) -> Result<String, Stri
     ))
 }
 
-fn no_verdict(number: u64) -> Result<String, String> {
+/// The limit that was hit, which the run's own numbers tell, and what the run had shown by then.
+fn stopped(answer: &Answer) -> String {
+    let limit = match answer.number {
+        2 => format!("steps, with {} allowed", count(answer.steps, "step")),
+        3 => format!("blocker room, with {}", count(answer.blockers, "place")),
+        _ => format!("word room, with {}", count(answer.level, "place")),
+    };
+    let events = count(answer.level, "event");
+    let shown = match (answer.number, answer.level) {
+        (4, _) => format!("no forbidden event sequence has {events} or fewer"),
+        (_, 0) => "no event sequence is ruled out yet".to_owned(),
+        _ => format!("no forbidden event sequence has fewer than {events}"),
+    };
+    format!("stopped: for want of {limit}\n{shown}")
+}
+
+fn refused(number: u64) -> Result<String, String> {
     let meaning = numbers::meaning(number);
     let meaning = meaning.ok_or_else(|| format!("line 1: number {number} has no meaning"))?;
-    Ok(match number {
-        2 => format!("stopped: for want of steps ({meaning})"),
-        3 => format!("stopped: for want of blocker room ({meaning})"),
-        4 => format!("stopped: for want of word room ({meaning})"),
-        _ => format!("refused: number {number}, {meaning}"),
-    })
+    Ok(format!("refused: number {number}, {meaning}"))
 }
 
 fn counts(answer: &Answer) -> String {

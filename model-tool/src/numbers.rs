@@ -1,10 +1,7 @@
-//! What the numbers of an answer mean, apart from the two verdicts, 0 and 1.
+//! What the numbers mean under which the checker refuses.
 
 pub fn meaning(number: u64) -> Option<&'static str> {
     Some(match number {
-        2 => "the allowance is used up without a verdict",
-        3 => "the next step is a block and finds no place",
-        4 => "the next step is an open and the level equals the word room",
         20 => "the image is under 20 bytes",
         21 => "n, the number of states, is 0 or above 64",
         22 => "k, the number of events, is 0 or above 64",
@@ -13,7 +10,7 @@ pub fn meaning(number: u64) -> Option<&'static str> {
         25 => "the initial case or the final set has a bit at n or above",
         26 => "a pair breaks the span rule",
         27 => "a row's state or a bit of its case is n or above",
-        30 => "the two tables of one room differ in length",
+        30 => "the tables of one room differ in length",
         31 => "a room or the hint table has over 65,536 places",
         32 => "word test: an event is k or above",
         _ => return None,

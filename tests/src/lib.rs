@@ -19,6 +19,7 @@ pub mod random;
 pub mod rearrange;
 pub mod record;
 pub mod search;
+pub mod stops;
 pub mod tables;
 pub mod text;
 pub mod walk;

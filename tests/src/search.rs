@@ -5,19 +5,13 @@
 use crate::acceptance::{accepts_backwards, backward_set};
 use crate::image::Model;
 use crate::tables::{Answer, Tables};
+use std::collections::HashSet;
 
-/// The length of a shortest accepted word, if one is accepted.
+/// The length of a shortest accepted word, if one is accepted. The cases that words take F back to must not
+/// be too many.
 pub fn shortest_word(model: &Model) -> Option<usize> {
-    assert!(model.states <= 16, "{model}: too many cases");
     let contains_initial = |case: u64| model.initial & !case == 0;
-    let mut seen = vec![0_u64; (1 << model.states) / 64 + 1];
-    let mut is_new = |case: u64| {
-        let (place, bit) = ((case / 64) as usize, 1 << (case % 64));
-        let new = seen[place] & bit == 0;
-        seen[place] |= bit;
-        new
-    };
-    is_new(model.final_set);
+    let mut seen = HashSet::from([model.final_set]);
     let mut reached = vec![model.final_set];
     for length in 0.. {
         if reached.iter().any(|&case| contains_initial(case)) {
@@ -27,7 +21,7 @@ pub fn shortest_word(model: &Model) -> Option<usize> {
         for &case in &reached {
             for symbol in 0..model.symbols() as u8 {
                 let backward = backward_set(model, symbol, case);
-                if is_new(backward) {
+                if seen.insert(backward) {
                     next.push(backward);
                 }
             }
@@ -35,6 +29,7 @@ pub fn shortest_word(model: &Model) -> Option<usize> {
         if next.is_empty() {
             return None;
         }
+        assert!(seen.len() <= 1 << 16, "{model}: too many cases");
         reached = next;
     }
     unreachable!("there are only so many cases")

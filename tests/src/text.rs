@@ -1,5 +1,5 @@
-//! A reader of models as text (`docs/FORMAT.md`) that shares nothing with the model tool's. It is for
-//! texts that are well formed, and panics at the others that it notices.
+//! A reader and a writer of models as text (`docs/FORMAT.md`) that share nothing with the model tool's.
+//! The reader is for texts that are well formed, and panics at the others that it notices.
 
 use crate::image::{Model, Row};
 
@@ -30,6 +30,27 @@ pub fn read(text: &str) -> Model {
         }
     }
     model
+}
+
+/// The model's text, in which numbers are the names.
+pub fn write(model: &Model) -> String {
+    let states = |case: u64| {
+        let states = (0..model.states).filter(move |state| case >> state & 1 == 1);
+        states.map(|state| format!(" {state}")).collect::<String>()
+    };
+    let mut text = format!(
+        "states {}\nevents {}\ninitial{}\nfinal{}\n",
+        model.states,
+        model.symbols(),
+        states(model.initial),
+        states(model.final_set)
+    );
+    for (symbol, rows) in model.rows.iter().enumerate() {
+        for row in rows {
+            text += &format!("row {} {symbol} :{}\n", row.state, states(row.case));
+        }
+    }
+    text
 }
 
 /// The names on a line, or the numbers up to the one that stands there alone.

@@ -10,6 +10,7 @@ use afa_tests::generate::{self, runs::run_model};
 use afa_tests::image::{broken_model_c, model_a, model_b, model_c, model_d, rings, Model};
 use afa_tests::machine::run;
 use afa_tests::random::Random;
+use afa_tests::stops::{least_length, Stops, Words};
 use afa_tests::tables::{Tables, Terms};
 use afa_tests::text;
 use std::fmt::Display;
@@ -160,16 +161,31 @@ fn files_of_models() {
     assert!(by_number.iter().sum::<usize>() >= known.len() + 2);
 }
 
+/// The lines, and the length that every accepted word has at least by them, against the shortest that a search
+/// finds.
 #[test]
 fn stops() {
-    for (model, number, lines) in [
-        (for_want_of_steps(), 2, "2 100000 199 244 0\n\n"),
-        (for_want_of_blocker_room(), 3, "3 992 104 256 0\n\n"),
-        (for_want_of_word_room(), 4, "4 783 256 256 0\n\n"),
+    let mut stops = Stops::default();
+    for (model, numbers, least, shortest) in [
+        (for_want_of_steps(), [2, 100_000, 199, 244, 0], 199, None),
+        (
+            for_want_of_blocker_room(),
+            [3, 992, 104, 256, 0],
+            104,
+            Some(209),
+        ),
+        (for_want_of_word_room(), [4, 783, 256, 256, 0], 257, None),
     ] {
-        assert_eq!(expected(&model.image()), (number, lines.to_string()));
+        let lines = format!("{}\n\n", spaced(&numbers));
+        let [number, _, level, _, _] = numbers;
+        assert_eq!(expected(&model.image()), (number, lines.clone()));
         assert_eq!(printed(&[&model.image()]), lines, "{model}");
+        assert_eq!(least_length(number, level, PLACES), least, "{model}");
+        let words = Words::of(&model);
+        assert_eq!(words.shortest, shortest, "{model}");
+        stops.judge(&words, number, level, PLACES);
     }
+    println!("stops: {stops}");
 }
 
 /// Each check of an image broken or not, in all ways.

@@ -8,7 +8,7 @@ use lib.Dec.{T}
 use lib.ListN.{length}
 use Rattle.lists.proofs.Lists.{in-none}
 use Rattle.machine.specs.System.{System}
-use Rattle.machine.specs.Machine.{Outcome, nonempty, empty, stepsLack, blockersLack, wordLacks, startsFinal}
+use Rattle.machine.specs.Machine.{Rooms, Outcome, nonempty, empty, stepsLack, blockersLack, wordLacks, startsFinal}
 use Rattle.machine.proofs.Language.{IsVerdict, AnswersStart, Word, accepts, Lawful, NoneAccepted, Shortest, SameLanguage}
 use Rattle.machine.proofs.Language.{Agree, both-nonempty, both-empty, both-at-start}
 use Rattle.machine.proofs.Verdicts.{closed-none, RightAnswer}
@@ -36,7 +36,7 @@ none-shortest : {S S′ : System} {word : List ℕ} → SameLanguage S S′ → 
 none-shortest {word = word} same h none = let other = accepted-too same h in none word (other .0) (other .1)
 
 -- a run beside one that found the start final found it so too
-at-start-too : {S S′ : System} {edition : ℕ} {outcome : Outcome} → SameLanguage S S′ → RightAnswer S′ edition startsFinal
+at-start-too : {S S′ : System} {edition : ℕ} {outcome : Outcome} → SameLanguage S S′ → (edition ≡ 2) × T (accepts S′ [])
     → AnswersStart S edition outcome → Agree outcome startsFinal
 at-start-too same r′ a =
     let accepted = subst T (sym (same .accepted [] (λ s m. absurd (in-none m)))) (r′ .1) in
@@ -47,10 +47,10 @@ agree-symmetric (both-nonempty e) = both-nonempty (sym e)
 agree-symmetric both-empty = both-empty
 agree-symmetric both-at-start = both-at-start
 
-module _ {S S′ : System} (lawful : Lawful S) (lawful′ : Lawful S′) (same : SameLanguage S S′) (edition : ℕ) where
+module _ {S S′ : System} (lawful : Lawful S) (lawful′ : Lawful S′) (same : SameLanguage S S′) (rooms rooms′ : Rooms) (edition : ℕ) where
   -- two right verdicts about one language agree, within one edition
-  pub right-verdicts-agree : (outcome outcome′ : Outcome) → IsVerdict outcome → IsVerdict outcome′ → RightAnswer S edition outcome
-      → RightAnswer S′ edition outcome′ → AnswersStart S edition outcome → AnswersStart S′ edition outcome′ → Agree outcome outcome′
+  pub right-verdicts-agree : (outcome outcome′ : Outcome) → IsVerdict outcome → IsVerdict outcome′ → RightAnswer S rooms edition outcome
+      → RightAnswer S′ rooms′ edition outcome′ → AnswersStart S edition outcome → AnswersStart S′ edition outcome′ → Agree outcome outcome′
   right-verdicts-agree (nonempty word c) (nonempty word′ c′) v v′ r r′ a a′ = both-nonempty (shortest-equal same (r .shortest) (r′ .shortest))
   right-verdicts-agree (nonempty word c) (empty c′) v v′ r r′ a a′ =
       absurd (none-shortest same (r .shortest) (closed-none S′ lawful′ (c′ .table) r′))

@@ -38,7 +38,7 @@ pub record Working (S : System) (rooms : Rooms) (c : Configuration) : Type 0 whe
 
 -- what holds of a run that was begun in this edition and has ended
 pub record Done (S : System) (rooms : Rooms) (edition : ℕ) (outcome : Outcome) : Type 0 where
-  pub right : RightAnswer S edition outcome
+  pub right : RightAnswer S rooms edition outcome
   pub start : AnswersStart S edition outcome
   pub counted : Counted rooms (comesTo (ends outcome))
   pub stamped : Stamped (comesTo (ends outcome))
@@ -50,6 +50,11 @@ Sure S rooms edition (ends outcome) = Done S rooms edition outcome
 -- each call grows soundly
 abbrev pub AllSound : System → List Given → Type 0
 AllSound S given = Each (λ g. Sound S (g .grow)) given
+
+-- the run works
+pub record Works (n : Next) : Type 0 where
+  pub at : Configuration
+  pub is : n ≡ goesOn at
 
 -- the run works no more
 pub record Ended (n : Next) : Type 0 where

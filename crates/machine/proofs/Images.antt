@@ -1,10 +1,11 @@
 -- The backward system of a valid image: it is lawful, it accepts the words that runs accept, and one automaton gives one language; and the rows that are
 -- walked for a backward set. Assumes nothing.
-use Prim.Native.Nat.{ℕ, _<_}
+use Prim.Native.Nat.{ℕ, _≤_, _<_}
 use mathlib.Core.Path.{_≡_, refl, sym, ap, subst, _∙_}
 use mathlib.Core.List.{List, [], _∷_}
 use mathlib.Core.Logic.{_⊎_, inl, inr, _↔_}
 use lib.Dec.{T}
+use lib.ListN.{length}
 use Rattle.lists.proofs.Tests.{or-none}
 use Rattle.lists.specs.Lists.{_∈_, any}
 use Rattle.lists.proofs.Lists.{in-none, in-cases}
@@ -19,7 +20,7 @@ use Rattle.automata.proofs.ValidImage.{valid-proper}
 use Rattle.automata.proofs.AcceptedWords.{accepted-means}
 use Rattle.machine.specs.Runs.{systemOf}
 use Rattle.machine.specs.Promises.{WalkPromises}
-use Rattle.machine.proofs.Language.{takenBack, Word, accepts, Lawful, SameLanguage}
+use Rattle.machine.proofs.Language.{takenBack, Word, accepts, Lawful, NoneShorter, SameLanguage}
 use Rattle.machine.proofs.WordTests.{same-accepts}
 
 -- the laws that the promises ask of a system hold of every valid image
@@ -68,6 +69,11 @@ accepted-by-runs image valid word =
       λ a. (means .0 a .0, subst T (sym (system-accepts image word)) (means .0 a .1)),
       λ h. means .1 (h .0, subst T (system-accepts image word) (h .1)),
     )
+
+-- no word that runs accept has fewer symbols than all that the system accepts have
+pub none-shorter-by-runs : (image : List ℕ) → Valid image → {N : ℕ} → NoneShorter (systemOf image) N → (word : List ℕ)
+    → Accepted (automatonOf image) word → N ≤ length word
+none-shorter-by-runs image valid shown word a = let h = accepted-by-runs image valid word .0 a in shown word (h .0) (h .1)
 
 -- images that hold one automaton have one language
 pub same-language : (image other : List ℕ) → HoldOne image other → SameLanguage (systemOf image) (systemOf other)

@@ -3,7 +3,7 @@
 use Prim.Native.Nat.{ℕ, suc, _-_, _^_, _≤_, _<_}
 use mathlib.Core.Path.{_≡_, refl, sym, ap, subst, _∙_}
 use mathlib.Core.List.{List, [], _∷_, _++_}
-use mathlib.Core.Logic.{_↔_, inl, inr}
+use mathlib.Core.Logic.{_↔_, _⊎_, inl, inr}
 use native.Mathlib.Omega.{arith}
 use lib.Dec.{T}
 use lib.ListN.{length, replicate}
@@ -19,14 +19,14 @@ use Rattle.machine.specs.Meaning.{Closed, EnteredInOrder}
 use Rattle.machine.specs.Lent.{BlockerRoom, EvenRoom, column, placed, eachTable, withTable}
 use Rattle.machine.specs.Runs.{Lent, zeroed, Result, systemOf, roomsOf, refused, numberOf, casesIn, symbolsIn, tablesAfter, resultOf}
 use Rattle.machine.specs.Promises.{heldBy, Alone, WordFound, Rules, RunEnded, Verdict, Decides, Agreed}
-use Rattle.machine.proofs.Language.{IsVerdict, Word, accepts, Lawful, Agree, both-nonempty, both-empty, both-at-start}
+use Rattle.machine.proofs.Language.{IsVerdict, Word, accepts, Lawful, NoneShorter, Agree, both-nonempty, both-empty, both-at-start}
 use Rattle.machine.proofs.Language.{Decided, decidedNonempty, decidedEmpty, decidedAtStart}
 use Rattle.machine.proofs.Verdicts.{RightAnswer, closed-none}
 use Rattle.machine.proofs.Entering.{Stamped}
 use Rattle.machine.proofs.Chains.{Done, AllSound, chain-done, chain-ended, chain-decided, chain-verdict-stays}
 use Rattle.machine.proofs.Agreeing.{right-verdicts-agree}
 use Rattle.machine.proofs.LentTables.{tables-even, column-whole, placed-whole, placed-none, read-back}
-use Rattle.machine.proofs.Images.{image-lawful, accepted-by-runs, same-language}
+use Rattle.machine.proofs.Images.{image-lawful, accepted-by-runs, none-shorter-by-runs, same-language}
 
 -- the number of an end is that of a verdict or a stop
 pub number-low : (o : Outcome) → numberOf (ends o) ≤ 5
@@ -47,6 +47,11 @@ wordless (stepsLack c) n = refl
 wordless (blockersLack c) n = refl
 wordless (wordLacks c) n = refl
 wordless startsFinal n = refl
+
+-- 2 and 3 lie between the verdicts and 4
+stop-low : {number : ℕ} → (number ≡ 2) ⊎ (number ≡ 3) → (1 < number) × (number < 4)
+stop-low (inl e) = omega (arith, e)
+stop-low (inr e) = omega (arith, e)
 
 -- lent tables of a room are equally long
 pub record Even (lent : Lent) : Type 0 where
@@ -147,7 +152,7 @@ module _ (image : List ℕ) (lent : Lent) (edition : ℕ) (valid : Valid image) 
         stands = symbols-end lent even (nonempty word c);
         accepted = accepted-by-runs image valid word .1 (right .shortest .symbols, right .shortest .accepted);
         long = right .long;
-        shortest = λ other a. let h = means other a in right .shortest .least other (h .0) (h .1);
+        shortest = none-shorter-by-runs image valid (right .shortest .least);
         some-symbol = not-the-empty-word word d;
       }
   found (empty c) d e = absurd (omega arith)
@@ -189,7 +194,7 @@ module _ (image : List ℕ) (lent : Lent) (edition : ℕ) (valid : Valid image) 
     where
       accepted : numberOf (ends o) ≡ 5 → (edition ≡ 2) × Accepted (automatonOf image) []
       accepted e =
-          let right = subst (RightAnswer (systemOf image) edition) (shows-final o e) (d .right) in
+          let right = subst (RightAnswer (systemOf image) (roomsOf lent) edition) (shows-final o e) (d .right) in
           (right .0, accepted-by-runs image valid [] .1 (λ s m. absurd (in-none m), right .1))
 
       answered : (edition ≡ 2) × Accepted (automatonOf image) [] → numberOf (ends o) ≡ 5
@@ -203,6 +208,27 @@ module _ (image : List ℕ) (lent : Lent) (edition : ℕ) (valid : Valid image) 
   nothing-done : (o : Outcome) → numberOf (ends o) ≡ 5 → Alone 5 (zeroed lent) (resultOf lent (ends o))
   nothing-done o e = is-alone (ap (λ (x : Outcome). resultOf lent (ends x)) (shows-final o e) ∙ at-start)
 
+  -- what a stop has shown of the system's words
+  stop-shows : (o : Outcome) → Done (systemOf image) (roomsOf lent) edition o → 1 < numberOf (ends o) → numberOf (ends o) < 4
+      → NoneShorter (systemOf image) (comesTo (ends o) .level)
+  unfolding numberOf
+  stop-shows (stepsLack c) d l h = d .right
+  stop-shows (blockersLack c) d l h = d .right
+  stop-shows (nonempty word c) d l h = absurd (omega arith)
+  stop-shows (empty c) d l h = absurd (omega arith)
+  stop-shows (wordLacks c) d l h = absurd (omega arith)
+  stop-shows startsFinal d l h = absurd (omega arith)
+
+  word-stop-shows : (o : Outcome) → Done (systemOf image) (roomsOf lent) edition o → numberOf (ends o) ≡ 4
+      → NoneShorter (systemOf image) (suc (length (lent .cases)))
+  unfolding numberOf
+  word-stop-shows (wordLacks c) d e = d .right
+  word-stop-shows (nonempty word c) d e = absurd (omega arith)
+  word-stop-shows (empty c) d e = absurd (omega arith)
+  word-stop-shows (stepsLack c) d e = absurd (omega arith)
+  word-stop-shows (blockersLack c) d e = absurd (omega arith)
+  word-stop-shows startsFinal d e = absurd (omega arith)
+
   -- every rule
   pub rules : (o : Outcome) → Done (systemOf image) (roomsOf lent) edition o → Rules image lent edition (resultOf lent (ends o))
   unfolding resultOf
@@ -213,6 +239,8 @@ module _ (image : List ℕ) (lent : Lent) (edition : ℕ) (valid : Valid image) 
         empty-frame = closed-frame o d;
         starts-final = starts-final o d;
         starts-final-leaves = nothing-done o;
+        stop-shows = λ s word a. let low = stop-low s in omega (arith, none-shorter-by-runs image valid (stop-shows o d (low .0) (low .1)) word a);
+        word-stop-shows = λ e word a. omega (arith, none-shorter-by-runs image valid (word-stop-shows o d e) word a);
         other = number-low o;
         held-fits = d .counted .table-fits;
         leaves-cases = cases-end lent even o;
@@ -250,7 +278,7 @@ module _ (image other : List ℕ) (lent lent′ : Lent) (edition : ℕ) where
       → Verdict edition (resultOf lent′ (ends o′) .number) → Agreed (resultOf lent (ends o)) (resultOf lent′ (ends o′))
   results-agree valid valid′ same {o} {o′} d d′ v v′ =
       agreed d d′
-      (right-verdicts-agree (image-lawful image valid) (image-lawful other valid′) (same-language image other same) edition
+      (right-verdicts-agree (image-lawful image valid) (image-lawful other valid′) (same-language image other same) (roomsOf lent) (roomsOf lent′) edition
       o o′ (verdict-number edition lent o v) (verdict-number edition lent′ o′ v′) (d .right) (d′ .right) (d .start) (d′ .start))
 
 -- a verdict within a bound: that it is one, the number that it shows, and its steps

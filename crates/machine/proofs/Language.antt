@@ -42,11 +42,15 @@ Sound S grow =
 abbrev pub NoneAccepted : System → Type 0
 NoneAccepted S = (word : List ℕ) → Word S word → T (accepts S word) → ⊥
 
+-- no word with fewer symbols is accepted
+abbrev pub NoneShorter : System → ℕ → Type 0
+NoneShorter S N = (word : List ℕ) → Word S word → T (accepts S word) → N ≤ length word
+
 -- the word is accepted, and no accepted word has fewer symbols
 pub record Shortest (S : System) (word : List ℕ) : Type 0 where
   pub symbols : Word S word
   pub accepted : T (accepts S word)
-  pub least : (other : List ℕ) → Word S other → T (accepts S other) → length word ≤ length other
+  pub least : NoneShorter S (length word)
 
 -- the run ended with a verdict, after at most `most` steps
 pub data Decided (most : ℕ) : Outcome → Type 0 where

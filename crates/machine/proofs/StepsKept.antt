@@ -10,15 +10,18 @@ use lib.ListN.{length, replicate, length-map}
 use Rattle.lists.specs.Lists.{keep}
 use Rattle.lists.proofs.Tests.{choose-true}
 use Rattle.automata.specs.Image.{Valid, check, statesOf}
-use Rattle.automata.specs.Automaton.{HoldOne}
-use Rattle.machine.specs.Machine.{Given, Outcome, Next, goesOn, ends, chain, begin}
+use Rattle.automata.specs.Automaton.{automatonOf, HoldOne}
+use Rattle.automata.specs.Acceptance.{Accepted}
+use Rattle.machine.specs.Machine.{Given, Outcome, Next, goesOn, ends, comesTo, chain, begin}
 use Rattle.machine.specs.Runs.{Lent, Terms, Result, systemOf, givenOf, roomsOf, refused, numberOf, resultOf, checkRun, runOf}
 use Rattle.machine.specs.Records.{Stage, configurationOf, recordOf, after, shown, Called, answering, aloneRecord, beginWith, beginOf}
 use Rattle.machine.specs.Records.{broken, checkRecord, checkStep, stepOf, stepsFrom, reachedBy, unrefused, givenBy, resultFrom}
 use Rattle.machine.specs.Promises.{Unbroken, Verdict, Agreed, BeginPromises, StepPromises, StepsPromises, RunBy, atOnce, bySteps}
+use Rattle.machine.proofs.Language.{Lawful}
 use Rattle.machine.proofs.Steps.{Advanced, tried, spent as used-up, advanced}
-use Rattle.machine.proofs.Chains.{Done, AllSound, Ended, working-calls}
-use Rattle.machine.proofs.Images.{image-lawful}
+use Rattle.machine.proofs.Verdicts.{none-shorter}
+use Rattle.machine.proofs.Chains.{Done, AllSound, Works, Ended, chain-working, working-calls}
+use Rattle.machine.proofs.Images.{image-lawful, none-shorter-by-runs}
 use Rattle.machine.proofs.Judging.{number-low, results-agree, ended-done, ended-rules, ended-how, ended-decides}
 use Rattle.machine.proofs.RunsKept.{given-each, given-sound, checked, run-number, refused-run, machine-run}
 use Rattle.machine.proofs.AnyRecord.{unbroken-means, lengths-same, run-first, takes-checked, checked-passed, stepped}
@@ -122,25 +125,46 @@ module _ (image : List ℕ) (lent : Lent) (begun : Terms) (steps : List Terms) (
   unfolding recordOf
   made-answer = ap (λ (at : Stage). at .run .answer) made-shows
 
+  made-level : reachedBy image lent begun steps .run .level ≡ comesTo stands .level
+  unfolding recordOf
+  made-level = ap (λ (at : Stage). at .run .level) made-shows
+
   made-result : resultFrom (reachedBy image lent begun steps) ≡ resultOf lent stands
   made-result = ap resultFrom made-shows ∙ shown-result lent stands
 
   sound : AllSound (systemOf image) (givenBy image lent steps)
   sound = given-sound image (checked image lent begun none .valid) (unrefused image lent steps)
 
-  -- after 4^(n+1) calls the machine works no more
-  works-no-more : 4 ^ suc (statesOf image) ≤ length (unrefused image lent steps) → reachedBy image lent begun steps .run .answer ≡ 6 → ⊥
-  unfolding numberOf
-  works-no-more many six = at stands refl
-    where
-      at : (n : Next) → stands ≡ n → ⊥
-      at (goesOn c) e =
-          omega (
-            arith,
-            length-map (unrefused image lent steps) (givenOf image),
-            working-calls (systemOf image) (image-lawful image (checked image lent begun none .valid)) (roomsOf lent) (begun .edition) _ sound e,
-          )
-      at (ends o) e = omega (arith, sym six ∙ made-answer ∙ ap numberOf e, number-low o)
+  lawful : Lawful (systemOf image)
+  lawful = image-lawful image (checked image lent begun none .valid)
+
+  -- where the answer is 6 the machine works
+  module _ (six : reachedBy image lent begun steps .run .answer ≡ 6) where
+    works : Works stands
+    unfolding numberOf
+    works = at stands refl
+      where
+        at : (n : Next) → stands ≡ n → Works stands
+        at (goesOn c) e = record { at = c; is = e }
+        at (ends o) e = absurd (omega (arith, sym six ∙ made-answer ∙ ap numberOf e, number-low o))
+
+    works-no-more : 4 ^ suc (statesOf image) ≤ length (unrefused image lent steps) → ⊥
+    works-no-more many =
+        omega (
+          arith,
+          length-map (unrefused image lent steps) (givenOf image),
+          working-calls (systemOf image) lawful (roomsOf lent) (begun .edition) _ sound (works .is),
+        )
+
+    -- and no accepted word is shorter than its level
+    working-shows : (word : List ℕ) → Accepted (automatonOf image) word → reachedBy image lent begun steps .run .level ≤ length word
+    working-shows word a =
+        let w = chain-working (systemOf image) lawful (roomsOf lent) (begun .edition) _ sound (works .is) in
+        omega (
+          arith,
+          made-level ∙ ap (λ (n : Next). comesTo n .level) (works .is),
+          none-shorter-by-runs image (checked image lent begun none .valid) (none-shorter lawful (w .holds)) word a,
+        )
 
   -- where the answer is not 6 the machine has ended
   module _ (f : reachedBy image lent begun steps .run .answer ≡ 6 → ⊥) where
@@ -165,7 +189,8 @@ module _ (image : List ℕ) (lent : Lent) (begun : Terms) (steps : List Terms) (
         stays = λ f. unworked-stays image (reachedBy image lent begun steps) f;
         decides = λ f few places levels enough. ended-decides image lent (begun .edition) (c .valid) (c .even) sound (ended f .is) (ended-result f)
             places levels (given-each image (λ given. 4 ^ suc (statesOf image) ≤ given .allowance) (unrefused image lent steps) enough);
-        works-no-more = works-no-more;
+        works-no-more = λ many six. works-no-more six many;
+        working-shows = working-shows;
       }
 
 -- of steps that are all given the same either each is refused or none

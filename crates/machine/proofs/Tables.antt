@@ -3,6 +3,7 @@
 use Prim.Native.Nat.{ℕ, zero, suc, _+_, _≤_, _<_}
 use mathlib.Core.Path.{_≡_, refl, subst}
 use mathlib.Core.List.{List, [], _∷_}
+use native.Mathlib.Decide.{decLe}
 use native.Mathlib.Omega.{arith}
 use lib.Dec.{T, leb→le, le→leb}
 use lib.ListN.{length}
@@ -13,7 +14,7 @@ use Rattle.masks.specs.Sets.{subset, within}
 use Rattle.masks.proofs.Laws.{subset-reflexive, subset-transitive}
 use Rattle.machine.specs.System.{System}
 use Rattle.machine.specs.Machine.{Blocker, covers, blocked}
-use Rattle.machine.proofs.Language.{takenBack, Word, accepts, Lawful}
+use Rattle.machine.proofs.Language.{takenBack, Word, accepts, Lawful, NoneShorter}
 
 -- the case is a subset of a blocker of level i or more
 pub record Covered (table : List Blocker) (i X : ℕ) : Type 0 where
@@ -139,9 +140,12 @@ module _ {S : System} (lawful : Lawful S) {top : ℕ} {table : List Blocker} (st
       blocked-initial (blocked-taken-back word w 0 (blocked-lower stands (0 + length word) (omega arith) b))
 
   -- where each final case is blocked at i, no word of at most i symbols is accepted
-  pub blocked-accepts-none : {i : ℕ} → Each (λ F. Blocked S table i F) (S .finals) → (word : List ℕ) → Word S word → length word ≤ i
-      → T (accepts S word) → ⊥
+  pub blocked-accepts-none : {i : ℕ} → Each (λ F. Blocked S table i F) (S .finals) → NoneShorter S (suc i)
   unfolding accepts
-  blocked-accepts-none finals word w l t =
-      let r = any-some (λ F. subset (S .initial) (takenBack S word F)) (S .finals) t in
-      blocked-takes-none (finals (r .element) (r .listed)) word w l (r .passes)
+  blocked-accepts-none {i} finals word w t = at (decLe (suc i) (length word))
+    where
+      at : Dec (suc i ≤ length word) → suc i ≤ length word
+      at (yes l) = l
+      at (no l) =
+          let r = any-some (λ F. subset (S .initial) (takenBack S word F)) (S .finals) t in
+          absurd (blocked-takes-none (finals (r .element) (r .listed)) word w (omega arith) (r .passes))

@@ -5,7 +5,6 @@ use mathlib.Core.Path.{_≡_, refl, sym, subst, _∙_}
 use mathlib.Core.Bool.{Bool, true, false}
 use mathlib.Core.List.{List, [], _∷_}
 use mathlib.Core.Logic.{_≢_}
-use native.Mathlib.Decide.{decLe}
 use native.Mathlib.Omega.{arith}
 use lib.Dec.{T, eqb, eqb-refl, lt→ltb, ltb→lt, ltb}
 use lib.ListN.{length}
@@ -20,7 +19,7 @@ use Rattle.machine.specs.Machine.{Step, opens, extends, blocks, closes, 
 use Rattle.machine.specs.Machine.{openStep, extendStep, blockStep, closeWith, qualifies, step, Next, goesOn, ends}
 use Rattle.machine.specs.Machine.{Outcome, nonempty, empty, stepsLack, blockersLack, wordLacks, startsFinal}
 use Rattle.machine.specs.Meaning.{Inside, Closed}
-use Rattle.machine.proofs.Language.{takenBack, Word, accepts, Lawful, Sound, NoneAccepted, Shortest}
+use Rattle.machine.proofs.Language.{takenBack, Word, accepts, Lawful, Sound, NoneAccepted, NoneShorter, Shortest}
 use Rattle.machine.proofs.Tables.{Covered, Blocked, blocked-covered, blocked-lower, blocked-accepts-none}
 use Rattle.machine.proofs.Rising.{placed}
 use Rattle.machine.proofs.Passing.{Passes, unqualified-held, chosen-is, chosen-passes}
@@ -85,10 +84,13 @@ frame-closed {S} {table} {N} inv j l h t = record {
     kept-of b m = keep-in (λ a. ltb j (a .level)) table m
 
 -- no accepted word is shorter than the level
-short-unaccepted : {S : System} → Lawful S → {table : List Blocker} {N : ℕ} {pending : List Pending} → Invariant S table N pending
-    → (word : List ℕ) → Word S word → length word < N → T (accepts S word) → ⊥
-short-unaccepted lawful inv word w l =
-    blocked-accepts-none lawful (inv .kept .stands) (inv .before (length word) l) word w (omega arith)
+pub none-shorter : {S : System} → Lawful S → {table : List Blocker} {N : ℕ} {pending : List Pending} → Invariant S table N pending → NoneShorter S N
+none-shorter lawful {N = zero} inv = λ word w t. omega arith
+none-shorter lawful {N = suc N} inv = blocked-accepts-none lawful (inv .kept .stands) (inv .before N (omega arith))
+
+-- where nothing is pending, none is as long as the level either
+none-as-long : {S : System} → Lawful S → {table : List Blocker} {N : ℕ} → Invariant S table N [] → NoneShorter S (suc N)
+none-as-long lawful inv = blocked-accepts-none lawful (inv .kept .stands) (inv .done refl)
 
 -- the word that an extend finds is accepted, and no shorter one is
 found-shortest : {S : System} → Lawful S → {table : List Blocker} {N : ℕ} {p : Pending} {rest : List Pending} → Invariant S table N (p ∷ rest)
@@ -96,7 +98,7 @@ found-shortest : {S : System} → Lawful S → {table : List Blocker} {N : ℕ} 
     → Shortest S (s ∷ wordOf (p ∷ rest)) × (length (s ∷ wordOf (p ∷ rest)) ≡ N)
 unfolding accepts takenBack
 found-shortest {S} lawful {table} {N} {p} {rest} inv s l t =
-    (record { symbols = symbols; accepted = accepted; least = λ other w u. at other w u (decLe N (length other)) }, long)
+    (record { symbols = symbols; accepted = accepted; least = λ other w u. omega (arith, long, none-shorter lawful inv other w u) }, long)
   where
     word : List ℕ
     word = s ∷ wordOf (p ∷ rest)
@@ -111,13 +113,7 @@ found-shortest {S} lawful {table} {N} {p} {rest} inv s l t =
         (subst (λ (X : ℕ). T (subset (S .initial) (S .backward s X))) (sym (o .taken)) t)
 
     long : length word ≡ N
-    long =
-        let least : ¬ (length word < N) = λ k. short-unaccepted lawful inv word symbols k accepted in
-        omega (arith, word-length p rest, chain-lowest (inv .chain) .high)
-
-    at : (other : List ℕ) → Word S other → T (accepts S other) → Dec (N ≤ length other) → length word ≤ length other
-    at other w u (yes h) = omega (arith, long)
-    at other w u (no h) = absurd (short-unaccepted lawful inv other w (omega arith) u)
+    long = omega (arith, none-shorter lawful inv word symbols accepted, word-length p rest, chain-lowest (inv .chain) .high)
 
 -- what holds of a configuration
 abbrev pub Holds : System → Configuration → Type 0
@@ -137,14 +133,14 @@ Right S (closes d) = Holds S d
 Right S (answersNonempty word d) = FoundWord S word d
 Right S (answersEmpty d) = Closed S (d .table)
 
--- a verdict is right, in its edition
-abbrev pub RightAnswer : System → ℕ → Outcome → Type 0
-RightAnswer S edition (nonempty word c) = FoundWord S word c
-RightAnswer S edition (empty c) = Closed S (c .table)
-RightAnswer S edition (stepsLack c) = Unit {0}
-RightAnswer S edition (blockersLack c) = Unit {0}
-RightAnswer S edition (wordLacks c) = Unit {0}
-RightAnswer S edition startsFinal = (edition ≡ 2) × T (accepts S [])
+-- a verdict is right, in its edition, and a stop has shown that no accepted word is shorter than its level, or as long as the word room or shorter
+abbrev pub RightAnswer : System → Rooms → ℕ → Outcome → Type 0
+RightAnswer S rooms edition (nonempty word c) = FoundWord S word c
+RightAnswer S rooms edition (empty c) = Closed S (c .table)
+RightAnswer S rooms edition (stepsLack c) = NoneShorter S (c .level)
+RightAnswer S rooms edition (blockersLack c) = NoneShorter S (c .level)
+RightAnswer S rooms edition (wordLacks c) = NoneShorter S (suc (rooms .word))
+RightAnswer S rooms edition startsFinal = (edition ≡ 2) × T (accepts S [])
 
 -- "if I is a subset of F" was answered no
 pub clear-finals : (S : System) → any (subset (S .initial)) (S .finals) ≡ false → FinalsClear S
@@ -188,26 +184,29 @@ module _ (S : System) (lawful : Lawful S) (clear : FinalsClear S) where
       at (emptying j l k t) h = frame-closed (close-holds h) j l k t
 
   -- what holds of a run that works, and of one that has ended
-  abbrev Stage : ℕ → Next → Type 0
-  Stage edition (goesOn c) = Holds S c
-  Stage edition (ends outcome) = RightAnswer S edition outcome
+  abbrev Stage : Rooms → ℕ → Next → Type 0
+  Stage rooms edition (goesOn c) = Holds S c
+  Stage rooms edition (ends outcome) = RightAnswer S rooms edition outcome
 
-  -- a step as the rooms judge it
-  judged-right : (edition : ℕ) {rooms : Rooms} {c : Configuration} {st : Step} {n : Next} → Right S st → Judged rooms c st n → Stage edition n
-  judged-right edition r (roomToOpen l) = r
-  judged-right edition r extended = r
-  judged-right edition r (roomToBlock l) = r
-  judged-right edition r closed = r
-  judged-right edition r found = r
-  judged-right edition r emptied = r
-  judged-right edition r (noRoomToOpen l) = tt
-  judged-right edition r (noRoomToBlock l) = tt
+  -- a step as the rooms judge it: one that finds no room leaves what was shown before it
+  judged-right : (edition : ℕ) {rooms : Rooms} {given : Given} {c : Configuration} {pending : List Pending} {isOpen : Bool} {st : Step} {n : Next}
+      → Taken S given c pending isOpen st → Invariant S (c .table) (c .level) pending → Right S st → Judged rooms c st n → Stage rooms edition n
+  unfolding openStep extendStep blockStep closeWith
+  judged-right edition opening h r (roomToOpen l) = r
+  judged-right edition opening h r (noRoomToOpen l) = λ word w t. omega (arith, l, none-as-long lawful h word w t)
+  judged-right edition (finding s l t u) h r found = r
+  judged-right edition (extending s l t u) h r extended = r
+  judged-right edition (blocking f) h r (roomToBlock l) = r
+  judged-right edition (blocking f) h r (noRoomToBlock l) = none-shorter lawful h
+  judged-right edition (closing e) h r closed = r
+  judged-right edition (emptying j l k t) h r emptied = r
 
   -- so does each call, whatever it is given, as long as it grows soundly
   pub advanced-right : (edition : ℕ) {rooms : Rooms} {given : Given} {c : Configuration} {n : Next} → Sound S (given .grow) → Holds S c
-      → Advanced S rooms given c n → Stage edition n
-  advanced-right edition {given = given} {c = c} sound h (tried l j) = judged-right edition (step-right given sound c h) j
-  advanced-right edition sound h (spent l) = tt
+      → Advanced S rooms given c n → Stage rooms edition n
+  advanced-right edition {given = given} {c = c} sound h (tried l j) =
+      judged-right edition (step-taken {given = given} c) h (step-right given sound c h) j
+  advanced-right edition sound h (spent l) = none-shorter lawful h
 
 -- the empty word is found at the start
 pub start-found : (S : System) → any (subset (S .initial)) (S .finals) ≡ true → FoundWord S [] beginning

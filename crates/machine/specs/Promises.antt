@@ -71,6 +71,10 @@ pub record Rules (image : List ℕ) (lent : Lent) (edition : ℕ) (r : Result) :
   -- 02, 6: "a start already final .. 2 answers such a start by 5": exactly if the empty word is accepted; ".. no steps, the rooms all 0"
   pub starts-final : (r .number ≡ 5) ↔ ((edition ≡ 2) × Accepted (automatonOf image) [])
   pub starts-final-leaves : r .number ≡ 5 → Alone 5 (zeroed lent) r
+  -- 02, 9: "a run that stops at level N, for want of steps or blocker room, has shown that no word shorter than N is accepted"
+  pub stop-shows : (r .number ≡ 2) ⊎ (r .number ≡ 3) → (word : List ℕ) → Accepted (automatonOf image) word → r .level ≤ length word
+  -- "one that stops at end of tape, none up to the word room's length, that length included"
+  pub word-stop-shows : r .number ≡ 4 → (word : List ℕ) → Accepted (automatonOf image) word → length (lent .cases) < length word
   -- "Below 20, pending cases are all 0; the symbol table holds .. 0 elsewhere; the blocker room holds the entries in table order, with 0 after them."
   pub other : r .number ≤ 5
   pub held-fits : r .blockers ≤ length (lent .room .masks)
@@ -199,6 +203,8 @@ pub record StepsPromises (image : List ℕ) (lent : Lent) (begun : Terms) (steps
       → Decides image lent (begun .edition) (givenBy image lent steps) (4 ^ suc (statesOf image)) (resultFrom at)
   -- it works no more after 4^(n+1) steps that are not refused, whatever its rooms and allowances
   pub works-no-more : 4 ^ suc (statesOf image) ≤ length (unrefused image lent steps) → at .run .answer ≡ 6 → ⊥
+  -- (what a caller wants to know) while it works it has shown as much as if it were stopped there
+  pub working-shows : at .run .answer ≡ 6 → (word : List ℕ) → Accepted (automatonOf image) word → at .run .level ≤ length word
 
 -- a run that was begun in this edition, at once or step by step, and its result
 pub data RunBy (image : List ℕ) (lent : Lent) : ℕ → Result → Type 0 where

@@ -57,19 +57,50 @@ fn nonempty() {
 #[test]
 fn stopped() {
     assert_eq!(
+        sentences("2 100 14 7 0\n\n"),
+        "stopped: for want of steps, with 100 steps allowed\n\
+         no forbidden event sequence has fewer than 14 events\n\
+         100 steps, level 14, 7 blockers held, 0 hints accepted\n"
+    );
+    assert_eq!(
+        sentences("3 9 3 2 1\n\n"),
+        "stopped: for want of blocker room, with 2 places\n\
+         no forbidden event sequence has fewer than 3 events\n\
+         9 steps, level 3, 2 blockers held, 1 hint accepted\n"
+    );
+    assert_eq!(
+        sentences("4 9 3 2 0\n\n"),
+        "stopped: for want of word room, with 3 places\n\
+         no forbidden event sequence has 3 events or fewer\n\
+         9 steps, level 3, 2 blockers held, 0 hints accepted\n"
+    );
+}
+
+/// In the smallest rooms and with the smallest allowances.
+#[test]
+fn stopped_early() {
+    assert_eq!(
+        sentences("2 0 0 0 0\n\n"),
+        "stopped: for want of steps, with 0 steps allowed\n\
+         no event sequence is ruled out yet\n\
+         0 steps, level 0, 0 blockers held, 0 hints accepted\n"
+    );
+    assert_eq!(
         sentences("2 1 1 0 0\n\n"),
-        "stopped: for want of steps (the allowance is used up without a verdict)\n\
+        "stopped: for want of steps, with 1 step allowed\n\
+         no forbidden event sequence has fewer than 1 event\n\
          1 step, level 1, 0 blockers held, 0 hints accepted\n"
     );
     assert_eq!(
         sentences("3 1 1 0 0\n\n"),
-        "stopped: for want of blocker room (the next step is a block and finds no place)\n\
+        "stopped: for want of blocker room, with 0 places\n\
+         no forbidden event sequence has fewer than 1 event\n\
          1 step, level 1, 0 blockers held, 0 hints accepted\n"
     );
     assert_eq!(
         sentences("4 0 0 0 0\n\n"),
-        "stopped: for want of word room \
-         (the next step is an open and the level equals the word room)\n\
+        "stopped: for want of word room, with 0 places\n\
+         no forbidden event sequence has 0 events or fewer\n\
          0 steps, level 0, 0 blockers held, 0 hints accepted\n"
     );
 }
@@ -88,7 +119,7 @@ fn refused() {
         ),
         (26, "a pair breaks the span rule"),
         (27, "a row's state or a bit of its case is n or above"),
-        (30, "the two tables of one room differ in length"),
+        (30, "the tables of one room differ in length"),
         (31, "a room or the hint table has over 65,536 places"),
         (32, "word test: an event is k or above"),
     ] {
