@@ -117,7 +117,7 @@ fn stopped(answer: &Answer) -> String {
     let events = count(answer.level, "event");
     let shown = match (answer.number, answer.level) {
         (4, _) => format!("no forbidden event sequence has {events} or fewer"),
-        (_, 0) => "no event sequence is ruled out yet".to_owned(),
+        (_, 0) => "nothing is shown yet of any event sequence".to_owned(),
         _ => format!("no forbidden event sequence has fewer than {events}"),
     };
     format!("stopped: for want of {limit}\n{shown}")

@@ -82,7 +82,7 @@ fn stopped_early() {
     assert_eq!(
         sentences("2 0 0 0 0\n\n"),
         "stopped: for want of steps, with 0 steps allowed\n\
-         no event sequence is ruled out yet\n\
+         nothing is shown yet of any event sequence\n\
          0 steps, level 0, 0 blockers held, 0 hints accepted\n"
     );
     assert_eq!(
