@@ -44,22 +44,27 @@ fn random_model(random: &mut Random) -> Model {
     }
 }
 
-/// Runs in one call.
-struct Runs {
+/// Runs of one sort, and the stops that were seen of them.
+struct Stopped<Comparison> {
     random: Random,
-    comparison: run::Comparison,
+    comparison: Comparison,
     stops: Stops,
 }
 
-impl Runs {
+impl<Comparison: Default> Stopped<Comparison> {
     fn seeded(seed: u64) -> Self {
-        Runs {
+        Stopped {
             random: Random::seeded(seed),
-            comparison: run::Comparison::default(),
+            comparison: Comparison::default(),
             stops: Stops::default(),
         }
     }
+}
 
+/// Runs in one call.
+type Runs = Stopped<run::Comparison>;
+
+impl Runs {
     /// A run that stops has just as much as the limit, and the stop is judged.
     fn run(&mut self, words: &Words, terms: &Terms, limits: Limits) -> Answer {
         let lent = Lent {
@@ -181,21 +186,9 @@ fn runs_of_random_models() {
 }
 
 /// Runs by steps, each of which has hints, an allowance, an edition and a way of its own.
-struct Chains {
-    random: Random,
-    comparison: steps::Comparison,
-    stops: Stops,
-}
+type Chains = Stopped<steps::Comparison>;
 
 impl Chains {
-    fn seeded(seed: u64) -> Self {
-        Chains {
-            random: Random::seeded(seed),
-            comparison: steps::Comparison::default(),
-            stops: Stops::default(),
-        }
-    }
-
     fn terms(&mut self, model: &Model, earlier: &Earlier, allowance: u64) -> Terms {
         Terms {
             hints: hints(&mut self.random, model, &earlier.blocks),

@@ -70,7 +70,7 @@ accepted-by-runs image valid word =
       λ h. means .1 (h .0, subst T (system-accepts image word) (h .1)),
     )
 
--- no word that runs accept has fewer symbols than all that the system accepts have
+-- if no word that the system accepts has fewer symbols, none that runs accept has
 pub none-shorter-by-runs : (image : List ℕ) → Valid image → {N : ℕ} → NoneShorter (systemOf image) N → (word : List ℕ)
     → Accepted (automatonOf image) word → N ≤ length word
 none-shorter-by-runs image valid shown word a = let h = accepted-by-runs image valid word .0 a in shown word (h .0) (h .1)

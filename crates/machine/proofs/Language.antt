@@ -42,7 +42,7 @@ Sound S grow =
 abbrev pub NoneAccepted : System → Type 0
 NoneAccepted S = (word : List ℕ) → Word S word → T (accepts S word) → ⊥
 
--- no word with fewer symbols is accepted
+-- no accepted word has fewer symbols
 abbrev pub NoneShorter : System → ℕ → Type 0
 NoneShorter S N = (word : List ℕ) → Word S word → T (accepts S word) → N ≤ length word
 

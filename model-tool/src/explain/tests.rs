@@ -54,55 +54,55 @@ fn nonempty() {
     );
 }
 
+fn assert_stopped(line: &str, limit: &str, shown: &str, counts: &str) {
+    let told = format!("stopped: for want of {limit}\n{shown}\n{counts}\n");
+    assert_eq!(sentences(&format!("{line}\n\n")), told);
+}
+
 #[test]
 fn stopped() {
-    assert_eq!(
-        sentences("2 100 14 7 0\n\n"),
-        "stopped: for want of steps, with 100 steps allowed\n\
-         no forbidden event sequence has fewer than 14 events\n\
-         100 steps, level 14, 7 blockers held, 0 hints accepted\n"
+    assert_stopped(
+        "2 100 14 7 0",
+        "steps, with 100 steps allowed",
+        "no forbidden event sequence has fewer than 14 events",
+        "100 steps, level 14, 7 blockers held, 0 hints accepted",
     );
-    assert_eq!(
-        sentences("3 9 3 2 1\n\n"),
-        "stopped: for want of blocker room, with 2 places\n\
-         no forbidden event sequence has fewer than 3 events\n\
-         9 steps, level 3, 2 blockers held, 1 hint accepted\n"
+    assert_stopped(
+        "3 9 3 2 1",
+        "blocker room, with 2 places",
+        "no forbidden event sequence has fewer than 3 events",
+        "9 steps, level 3, 2 blockers held, 1 hint accepted",
     );
-    assert_eq!(
-        sentences("4 9 3 2 0\n\n"),
-        "stopped: for want of word room, with 3 places\n\
-         no forbidden event sequence has 3 events or fewer\n\
-         9 steps, level 3, 2 blockers held, 0 hints accepted\n"
+    assert_stopped(
+        "4 9 3 2 0",
+        "word room, with 3 places",
+        "no forbidden event sequence has 3 events or fewer",
+        "9 steps, level 3, 2 blockers held, 0 hints accepted",
     );
 }
 
 /// In the smallest rooms and with the smallest allowances.
 #[test]
 fn stopped_early() {
-    assert_eq!(
-        sentences("2 0 0 0 0\n\n"),
-        "stopped: for want of steps, with 0 steps allowed\n\
-         nothing is shown yet of any event sequence\n\
-         0 steps, level 0, 0 blockers held, 0 hints accepted\n"
+    let counts = "1 step, level 1, 0 blockers held, 0 hints accepted";
+    let fewer_than_1 = "no forbidden event sequence has fewer than 1 event";
+    assert_stopped(
+        "2 1 1 0 0",
+        "steps, with 1 step allowed",
+        fewer_than_1,
+        counts,
     );
-    assert_eq!(
-        sentences("2 1 1 0 0\n\n"),
-        "stopped: for want of steps, with 1 step allowed\n\
-         no forbidden event sequence has fewer than 1 event\n\
-         1 step, level 1, 0 blockers held, 0 hints accepted\n"
+    assert_stopped(
+        "3 1 1 0 0",
+        "blocker room, with 0 places",
+        fewer_than_1,
+        counts,
     );
-    assert_eq!(
-        sentences("3 1 1 0 0\n\n"),
-        "stopped: for want of blocker room, with 0 places\n\
-         no forbidden event sequence has fewer than 1 event\n\
-         1 step, level 1, 0 blockers held, 0 hints accepted\n"
-    );
-    assert_eq!(
-        sentences("4 0 0 0 0\n\n"),
-        "stopped: for want of word room, with 0 places\n\
-         no forbidden event sequence has 0 events or fewer\n\
-         0 steps, level 0, 0 blockers held, 0 hints accepted\n"
-    );
+    let counts = "0 steps, level 0, 0 blockers held, 0 hints accepted";
+    let nothing = "nothing is shown yet of any event sequence";
+    assert_stopped("2 0 0 0 0", "steps, with 0 steps allowed", nothing, counts);
+    let not_at_once = "no forbidden event sequence has 0 events or fewer";
+    assert_stopped("4 0 0 0 0", "word room, with 0 places", not_at_once, counts);
 }
 
 #[test]
