@@ -28,9 +28,28 @@ impl Case {
         self.0 >> state.0 & 1 == 1
     }
 
-    /// No bit stands at `state_count` or above, which is 1 to 64.
-    pub fn is_below(self, state_count: usize) -> bool {
-        self.0 <= u64::MAX >> (MOST_STATES - state_count)
+    pub fn is_subset(self, other: Case) -> bool {
+        self.0 & !other.0 == 0
+    }
+
+    pub fn of(state: State) -> Self {
+        Case::default().with(state)
+    }
+
+    pub fn is_empty(self) -> bool {
+        self.0 == 0
+    }
+
+    pub fn union(self, other: Case) -> Case {
+        Case(self.0 | other.0)
+    }
+
+    pub fn intersection(self, other: Case) -> Case {
+        Case(self.0 & other.0)
+    }
+
+    pub fn without(self, other: Case) -> Case {
+        Case(self.0 & !other.0)
     }
 
     pub fn states(self) -> impl Iterator<Item = State> {
@@ -45,6 +64,13 @@ impl Case {
 pub struct Row {
     pub state: State,
     pub case: Case,
+}
+
+/// Some of the states under a name, such as those of the screen; it has its own column in a run.
+#[derive(Clone, Debug, PartialEq, Eq)]
+pub struct Part {
+    pub name: String,
+    pub states: Case,
 }
 
 /// The names of the states, or of the events, in the order of their numbers.
@@ -85,6 +111,13 @@ impl Names {
     }
 }
 
+/// The states that are written by a word in a set: one by its name or number, or all of a part by its.
+pub fn states_of(word: &str, states: &Names, parts: &[Part]) -> Option<Case> {
+    let state = states.find(word).map(|number| Case::of(State(number)));
+    let part = || parts.iter().find(|part| part.name == word);
+    state.or_else(|| part().map(|part| part.states))
+}
+
 /// The number that `word` writes with decimal digits alone.
 pub fn decimal<Number: FromStr>(word: &str) -> Option<Number> {
     let digits = word.bytes().all(|byte| byte.is_ascii_digit());
@@ -101,6 +134,8 @@ pub struct Model {
     pub initial: Case,
     /// F.
     pub final_set: Case,
+    /// No state is in two of them.
+    pub parts: Vec<Part>,
     /// The rows of each event, in their order.
     pub rows: Vec<Vec<Row>>,
 }
@@ -117,5 +152,43 @@ impl Model {
 
     pub fn event_name(&self, event: Event) -> &str {
         self.events.name(event.0)
+    }
+
+    /// The names of a case's states, in the order of their numbers.
+    pub fn names_of(&self, case: Case) -> Vec<&str> {
+        case.states().map(|state| self.state_name(state)).collect()
+    }
+
+    /// A case as people write a set, in braces: part by part, with the part's name for all of its states.
+    pub fn set(&self, case: Case) -> String {
+        let mut names = Vec::new();
+        for part in &self.parts {
+            if part.states.is_subset(case) && part.states.states().count() > 1 {
+                names.push(part.name.as_str());
+            } else {
+                names.extend(self.names_of(case.intersection(part.states)));
+            }
+        }
+        names.extend(self.names_of(case.intersection(self.rest())));
+        format!("{{{}}}", names.join(", "))
+    }
+
+    /// The states that are in no part.
+    pub fn rest(&self) -> Case {
+        let all = Case(u64::MAX >> (MOST_STATES - self.states.count()));
+        self.parts
+            .iter()
+            .fold(all, |rest, part| rest.without(part.states))
+    }
+
+    /// The states with a row by the event whose case is a subset of `case`.
+    pub fn backward(&self, event: Event, case: Case) -> Case {
+        let rows = self.rows[usize::from(event.0)].iter();
+        let rows = rows.filter(|row| row.case.is_subset(case));
+        rows.fold(Case::default(), |set, row| set.with(row.state))
+    }
+
+    pub fn all_events(&self) -> impl Iterator<Item = Event> {
+        (0..self.events.count() as u8).map(Event)
     }
 }

@@ -1,7 +1,7 @@
 //! Tests: a model keeps its image on the way to text and back.
 
 use crate::image;
-use crate::model::{Case, Model, Names, Row, State};
+use crate::model::{Case, Model, Names, Part, Row, State};
 use crate::text;
 use std::fs;
 use std::path::Path;
@@ -34,6 +34,22 @@ impl Random {
         Names::new(names.collect())
     }
 
+    /// Each state in one of the first parts or in none.
+    fn parts(&mut self, state_count: usize) -> Vec<Part> {
+        let part_count = 1 + self.below(4);
+        let mut states = vec![Case::default(); part_count + 1];
+        for state in 0..state_count {
+            let part = &mut states[self.below(part_count + 1)];
+            *part = part.with(State(state as u8));
+        }
+        let parts = states[..part_count].iter().enumerate();
+        let parts = parts.map(|(number, &states)| Part {
+            name: format!("part-{number}"),
+            states,
+        });
+        parts.filter(|part| !part.states.is_empty()).collect()
+    }
+
     fn model(&mut self) -> Model {
         let state_count = 1 + self.below(64);
         let event_count = 1 + self.below(64);
@@ -48,6 +64,7 @@ impl Random {
             events: self.names(event_count),
             initial: self.case(state_count),
             final_set: self.case(state_count),
+            parts: self.parts(state_count),
             rows,
         }
     }

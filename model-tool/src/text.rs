@@ -5,6 +5,7 @@
 //! ```text
 //! states  shown stale fresh
 //! events  tick refresh
+//! part    cache : stale fresh
 //! initial shown
 //! final   stale fresh
 //! row shown tick : stale fresh
@@ -13,47 +14,38 @@
 #[cfg(test)]
 mod tests;
 
-use crate::model::{decimal, Case, Event, Model, Names, Row, State};
+use crate::fault::{expected_one_of, quoted, shortened, unknown, unknown_with_parts, Fault};
+use crate::model::{decimal, states_of, Case, Event, Model, Names, Part, Row, State};
 use crate::model::{MOST_EVENTS, MOST_ROWS, MOST_STATES};
-use std::fmt;
-
-/// What is wrong with a text, and the line where it was seen, from 1.
-#[derive(Debug, PartialEq, Eq)]
-pub struct Fault {
-    line: usize,
-    what: String,
-}
-
-impl fmt::Display for Fault {
-    fn fmt(&self, formatter: &mut fmt::Formatter) -> fmt::Result {
-        write!(formatter, "line {}: {}", self.line, self.what)
-    }
-}
+use crate::words::{lines, Line, Word};
 
 pub fn read(text: &[u8]) -> Result<Model, Fault> {
-    let text = text.strip_suffix(b"\n").unwrap_or(text);
     let mut reader = Reader::default();
-    let mut line = 0;
-    for bytes in text.split(|&byte| byte == b'\n') {
-        line += 1;
-        reader.line(bytes).map_err(|what| Fault { line, what })?;
+    let mut end = (1, 1);
+    for line in lines(text, ":") {
+        let line = line?;
+        let said = reader.line(&line.words);
+        said.map_err(|(place, what)| line.fault_at(place, what))?;
+        end = (line.number, line.end);
     }
-    reader.end().map_err(|what| Fault { line, what })
+    let (line, column) = end;
+    let fault = |what| Fault { line, column, what };
+    reader.end().map_err(fault)
 }
 
 /// The text of a model, its rows by event.
 pub fn write(model: &Model) -> String {
-    let case = |case: Case| {
-        let names = case.states().map(|state| model.state_name(state));
-        names.collect::<Vec<_>>().join(" ")
-    };
+    let case = |case: Case| model.names_of(case).join(" ");
     let mut lines = vec![
         format!("states {}", declared(&model.states)),
         format!("events {}", declared(&model.events)),
-        format!("initial {}", case(model.initial)),
-        format!("final {}", case(model.final_set)),
     ];
-    for (event, rows) in (0..).map(Event).zip(&model.rows) {
+    for part in &model.parts {
+        lines.push(format!("part {} : {}", part.name, case(part.states)));
+    }
+    lines.push(format!("initial {}", case(model.initial)));
+    lines.push(format!("final {}", case(model.final_set)));
+    for (event, rows) in model.all_events().zip(&model.rows) {
         let event = model.event_name(event);
         for row in rows {
             let state = model.state_name(row.state);
@@ -72,85 +64,123 @@ fn declared(names: &Names) -> String {
     }
 }
 
-/// What the lines read so far have said. An error says what was found and what was expected.
+/// What was found and what was expected, and the place of the word in its line, from 0: as many as there
+/// are for the line's end.
+type Said<T> = Result<T, (usize, String)>;
+
+/// What the lines read so far have said.
 #[derive(Default)]
 struct Reader {
     states: Option<Names>,
     events: Option<Names>,
     initial: Option<Case>,
     final_set: Option<Case>,
+    parts: Vec<Part>,
     rows: Vec<(Event, Row)>,
 }
 
 impl Reader {
-    fn line(&mut self, bytes: &[u8]) -> Result<(), String> {
-        let line = std::str::from_utf8(bytes).map_err(|_| "expected text in UTF-8")?;
-        let said = line.split('#').next().unwrap_or("").replace(':', " : ");
-        let words: Vec<&str> = said.split_whitespace().collect();
-        match words[..] {
-            [] => Ok(()),
-            ["states", ref words @ ..] => {
-                let names = names("states", words, MOST_STATES)?;
+    fn line(&mut self, words: &[Word]) -> Said<()> {
+        let Some((first, rest)) = words.split_first() else {
+            return Ok(());
+        };
+        match first.text {
+            "states" => {
+                let names = names("states", rest, MOST_STATES)?;
                 once(&mut self.states, "states", names)
             }
-            ["events", ref words @ ..] => {
-                let names = names("events", words, MOST_EVENTS)?;
+            "events" => {
+                let names = names("events", rest, MOST_EVENTS)?;
                 once(&mut self.events, "events", names)
             }
-            ["initial", ref words @ ..] => {
-                let case = self.case(words)?;
+            "initial" => {
+                let case = self.case(words, 1)?;
                 once(&mut self.initial, "initial", case)
             }
-            ["final", ref words @ ..] => {
-                let case = self.case(words)?;
+            "final" => {
+                let case = self.case(words, 1)?;
                 once(&mut self.final_set, "final", case)
             }
-            ["row", state, event, ":", ref words @ ..] => self.row(state, event, words),
-            ["row", ..] => Err("expected: row STATE EVENT : STATES".to_owned()),
-            [word, ..] => Err(format!(
-                "'{word}' begins no line: expected states, events, initial, final or row"
-            )),
+            "part" => self.part(words),
+            "row" => self.row(words),
+            word => {
+                let known = vec!["states", "events", "part", "initial", "final", "row"];
+                let expected = expected_one_of(word, known);
+                Err((0, format!("{} begins no line{expected}", quoted(word))))
+            }
         }
     }
 
-    fn row(&mut self, state: &str, event: &str, words: &[&str]) -> Result<(), String> {
-        let state = self.state(state)?;
-        let event = self.event(event)?;
-        let case = self.case(words)?;
+    fn part(&mut self, words: &[Word]) -> Said<()> {
+        let names = present(&self.states, "states")?;
+        colon(words, 2, "part NAME : STATES")?;
+        let name = words[1].text;
+        if !is_name(name) {
+            return Err((1, no_name(name)));
+        }
+        if states_of(name, names, &self.parts).is_some() {
+            let name = quoted(name);
+            return Err((
+                1,
+                format!("{name} is a state or a part already: expected a new name"),
+            ));
+        }
+        let mut states = Case::default();
+        for place in 3..words.len() {
+            let state = self.state(words, place)?;
+            let mut others = self.parts.iter();
+            let other = others.find(|part| part.states.contains(state));
+            if let Some(other) = other {
+                let (state, name) = (quoted(words[place].text), quoted(&other.name));
+                let what = format!("{state} is in the part {name} already: expected one part");
+                return Err((place, what));
+            }
+            states = joined(states, Case::of(state), words, place)?;
+        }
+        if states.is_empty() {
+            return Err((words.len(), "no state: expected one or more".to_owned()));
+        }
+        self.parts.push(Part {
+            name: name.to_owned(),
+            states,
+        });
+        Ok(())
+    }
+
+    fn row(&mut self, words: &[Word]) -> Said<()> {
+        present(&self.states, "states")?;
+        present(&self.events, "events")?;
+        colon(words, 3, "row STATE EVENT : STATES")?;
+        let state = self.state(words, 1)?;
+        let event = self.event(words, 2)?;
+        let case = self.case(words, 4)?;
         self.rows.push((event, Row { state, case }));
         if self.rows.len() > MOST_ROWS {
-            return Err(format!("one row too many: expected at most {MOST_ROWS}"));
+            let what = format!("one row too many: expected at most {MOST_ROWS}");
+            return Err((0, what));
         }
         Ok(())
     }
 
-    fn case(&self, words: &[&str]) -> Result<Case, String> {
-        present(&self.states, "states")?;
+    /// The states from a place on, each once.
+    fn case(&self, words: &[Word], from: usize) -> Said<Case> {
+        let names = present(&self.states, "states")?;
         let mut case = Case::default();
-        for word in words {
-            let state = self.state(word)?;
-            if case.contains(state) {
-                return Err(format!("'{word}' stands twice: expected each state once"));
-            }
-            case = case.with(state);
+        for place in from..words.len() {
+            let states = set_at(names, &self.parts, words, place)?;
+            case = joined(case, states, words, place)?;
         }
         Ok(case)
     }
 
-    fn state(&self, word: &str) -> Result<State, String> {
+    fn state(&self, words: &[Word], place: usize) -> Said<State> {
         let names = present(&self.states, "states")?;
-        let number = names
-            .find(word)
-            .ok_or_else(|| unknown(word, "state", names));
-        number.map(State)
+        found(names, words, place, "state").map(State)
     }
 
-    fn event(&self, word: &str) -> Result<Event, String> {
+    fn event(&self, words: &[Word], place: usize) -> Said<Event> {
         let names = present(&self.events, "events")?;
-        let number = names
-            .find(word)
-            .ok_or_else(|| unknown(word, "event", names));
-        number.map(Event)
+        found(names, words, place, "event").map(Event)
     }
 
     fn end(self) -> Result<Model, String> {
@@ -168,62 +198,128 @@ impl Reader {
             events,
             initial,
             final_set,
+            parts: self.parts,
             rows,
         })
     }
 }
 
-fn once<T>(place: &mut Option<T>, word: &str, value: T) -> Result<(), String> {
-    match place.replace(value) {
-        None => Ok(()),
-        Some(_) => Err(format!("a second line '{word}': expected one")),
-    }
+fn found(names: &Names, words: &[Word], place: usize, what: &str) -> Said<u8> {
+    let word = words[place].text;
+    let number = names.find(word);
+    number.ok_or_else(|| (place, unknown(word, what, names)))
 }
 
-fn present<'a>(names: &'a Option<Names>, word: &str) -> Result<&'a Names, String> {
-    let missing = || format!("expected a line '{word}' before this one");
+/// The states that a word of a set writes.
+fn set_at(names: &Names, parts: &[Part], words: &[Word], place: usize) -> Said<Case> {
+    let word = words[place].text;
+    let states = states_of(word, names, parts);
+    states.ok_or_else(|| (place, unknown_with_parts(word, "state", names, parts)))
+}
+
+/// A set with more states, none of which it has yet.
+fn joined(case: Case, more: Case, words: &[Word], place: usize) -> Said<Case> {
+    if case.intersection(more).is_empty() {
+        return Ok(case.union(more));
+    }
+    let word = quoted(words[place].text);
+    Err((
+        place,
+        format!("{word} stands twice: expected each state once"),
+    ))
+}
+
+/// A colon stands at this place, and none before it.
+fn colon(words: &[Word], place: usize, shape: &str) -> Said<()> {
+    let first = words.iter().position(|word| word.text == ":");
+    if first == Some(place) {
+        return Ok(());
+    }
+    let place = first.map_or(place, |first| first.min(place));
+    Err((place.min(words.len()), format!("expected: {shape}")))
+}
+
+fn present<'a>(names: &'a Option<Names>, word: &str) -> Said<&'a Names> {
+    let missing = || (0, format!("expected a line '{word}' before this one"));
     names.as_ref().ok_or_else(missing)
 }
 
-fn unknown(word: &str, what: &str, names: &Names) -> String {
-    let numbers = format!("a number from 0 to {}", names.count() - 1);
-    if names.are_numbers() {
-        format!("'{word}' is no {what}: expected {numbers}")
-    } else {
-        let names = names.all().join(", ");
-        format!("'{word}' is no {what}: expected {numbers} or one of {names}")
+fn once<T>(place: &mut Option<T>, word: &str, value: T) -> Said<()> {
+    match place.replace(value) {
+        None => Ok(()),
+        Some(_) => Err((0, format!("a second line '{word}': expected one"))),
     }
 }
 
 /// The names on a line `states` or `events`, or numbers for names if it says how many.
-fn names(what: &str, words: &[&str], most: usize) -> Result<Names, String> {
-    let count = match words {
-        [word] => decimal(word),
-        _ => None,
+fn names(what: &str, words: &[Word], most: usize) -> Said<Names> {
+    let is_count = |word: &Word| word.text.bytes().all(|byte| byte.is_ascii_digit());
+    let (said, count) = match words {
+        [word] if is_count(word) => (
+            shortened(word.text),
+            decimal(word.text).unwrap_or(usize::MAX),
+        ),
+        _ => (words.len().to_string(), words.len()),
     };
-    let found = count.unwrap_or(words.len());
-    if found == 0 || found > most {
-        return Err(format!("{found} {what}: expected 1 to {most}"));
+    if !(1..=most).contains(&count) {
+        return Err((1, format!("{said} {what}: expected 1 to {most}")));
     }
-    if count.is_some() {
-        return Ok(Names::numbered(found));
-    }
-    for (place, word) in words.iter().enumerate() {
-        if !is_name(word) {
-            return Err(format!(
-                "'{word}' is no name: expected a letter, then letters, digits, '-' or '_'"
-            ));
-        }
-        if words[..place].contains(word) {
-            return Err(format!("'{word}' stands twice: expected each name once"));
+    if let [word] = words {
+        if is_count(word) {
+            return Ok(Names::numbered(count));
         }
     }
-    Ok(Names::new(
-        words.iter().map(|&word| word.to_owned()).collect(),
-    ))
+    let mut names: Vec<String> = Vec::new();
+    for (word, place) in words.iter().zip(1..) {
+        if !is_name(word.text) {
+            return Err((place, no_name(word.text)));
+        }
+        if names.iter().any(|name| name == word.text) {
+            let word = quoted(word.text);
+            let what = format!("{word} stands twice: expected each name once");
+            return Err((place, what));
+        }
+        names.push(word.text.to_owned());
+    }
+    Ok(Names::new(names))
 }
 
 fn is_name(word: &str) -> bool {
     let inner = |letter: char| letter.is_alphanumeric() || letter == '-' || letter == '_';
     word.starts_with(char::is_alphabetic) && word.chars().all(inner)
+}
+
+fn no_name(word: &str) -> String {
+    let word = quoted(word);
+    format!("{word} is no name: expected a letter, then letters, digits, '-' or '_'")
+}
+
+/// Sets of states, one a line, as for hints: names or numbers, with or without braces and commas.
+pub fn read_sets(model: &Model, text: &[u8]) -> Result<Vec<Case>, Fault> {
+    let mut sets = Vec::new();
+    for line in lines(text, "{,}") {
+        let line = line?;
+        if !line.words.is_empty() {
+            sets.push(set(model, &line)?);
+        }
+    }
+    Ok(sets)
+}
+
+fn set(model: &Model, line: &Line) -> Result<Case, Fault> {
+    let words = &line.words;
+    let mut case = Case::default();
+    for (place, word) in words.iter().enumerate() {
+        let all = match word.text {
+            "{" if place > 0 => Err((place, "expected one set on a line".to_owned())),
+            "}" if place + 1 < words.len() => {
+                Err((place + 1, "expected one set on a line".to_owned()))
+            }
+            "{" | "," | "}" => Ok(case),
+            _ => set_at(&model.states, &model.parts, words, place)
+                .and_then(|states| joined(case, states, words, place)),
+        };
+        case = all.map_err(|(place, what)| line.fault_at(place, what))?;
+    }
+    Ok(case)
 }

@@ -18,7 +18,7 @@ fn example(begins: &str) -> String {
 }
 
 fn image(model: &Path) -> Vec<u8> {
-    let tool = env!("CARGO_BIN_EXE_afa-model");
+    let tool = env!("CARGO_BIN_EXE_afa");
     let ended = Command::new(tool).arg("image").arg(model).output().unwrap();
     assert!(ended.status.success(), "{ended:?}");
     ended.stdout

@@ -4,7 +4,7 @@
 use crate::image::{Model, Row};
 
 pub fn read(text: &str) -> Model {
-    let (mut states, mut events) = (Vec::new(), Vec::new());
+    let (mut states, mut events, mut parts) = (Vec::new(), Vec::new(), Vec::new());
     let mut model = Model::new(0, 0, 0, &[]);
     for line in text.lines() {
         let said = line.split('#').next().unwrap_or("").replace(':', " : ");
@@ -19,11 +19,15 @@ pub fn read(text: &str) -> Model {
                 events = names(words);
                 model.rows = vec![Vec::new(); events.len()];
             }
-            ["initial", ref words @ ..] => model.initial = case(&states, words),
-            ["final", ref words @ ..] => model.final_set = case(&states, words),
+            ["part", name, ":", ref words @ ..] => {
+                let states = case(&states, &[], words);
+                parts.push((name.to_owned(), states));
+            }
+            ["initial", ref words @ ..] => model.initial = case(&states, &parts, words),
+            ["final", ref words @ ..] => model.final_set = case(&states, &parts, words),
             ["row", state, event, ":", ref words @ ..] => {
                 let state = number(&states, state) as u8;
-                let case = case(&states, words);
+                let case = case(&states, &parts, words);
                 model.rows[number(&events, event)].push(Row { state, case });
             }
             _ => panic!("what is this line? {line}"),
@@ -69,7 +73,11 @@ fn number(names: &[String], word: &str) -> usize {
     named.unwrap_or_else(|| word.parse().expect("a name or a number"))
 }
 
-fn case(states: &[String], words: &[&str]) -> u64 {
-    let states = words.iter().map(|word| number(states, word));
-    states.fold(0, |case, state| case | 1 << state)
+/// A set of states, in which a part's name stands for all of its states.
+fn case(states: &[String], parts: &[(String, u64)], words: &[&str]) -> u64 {
+    let states = words.iter().map(|word| {
+        let part = parts.iter().find(|(name, _)| name == word);
+        part.map_or_else(|| 1 << number(states, word), |&(_, states)| states)
+    });
+    states.fold(0, |case, more| case | more)
 }

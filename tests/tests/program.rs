@@ -62,8 +62,7 @@ fn printed(pieces: &[&[u8]]) -> String {
     let program = root().join("target/bin/emptiness");
     assert!(
         program.is_file(),
-        "{} is missing: run `bash .ci/run` or `bash model-tool/check models/c.txt` in the \
-         repository's root first",
+        "{} is missing: run `bash .ci/run` or `rt check emptiness` in the repository's root first",
         program.display()
     );
     let mut child = Command::new(program)

@@ -82,13 +82,4 @@ fn the_largest_sizes_are_read() {
     assert_eq!(read(&plain(64, 4096)).unwrap().row_count(), 4096);
     assert_eq!(read(&plain(64, 4097)), Err(Refusal(23)));
     assert_eq!(read(&plain(65, 0)), Err(Refusal(21)));
-    assert_eq!(MOST_READ, 37_397);
-}
-
-#[test]
-fn a_refusal_says_its_number_and_a_sentence() {
-    assert_eq!(
-        Refusal(24).to_string(),
-        "refused with number 24: the image's length differs from 20 + 8k + 9m"
-    );
 }
