@@ -83,7 +83,9 @@ impl Repository {
              mkdir -p target/stamp target/staticlib\n\
              [ -e target/stamp/exports ] || echo proved >target/stamp/exports\n\
              [ \"$1\" != staticlib ] || { sleep 0.01; echo archive >target/staticlib/libexports.a; }\n\
-             echo 'rt: lists proved (unchanged since it was last proved)'\n\
+             echo 'rt: lists proved (unchanged since it was last proved)' >&2\n\
+             echo 'struct masks::State: proved'\n\
+             echo '/a/file.antt:39:5: note: large solution'\n\
              echo 'rt: news'\n\
              exit \"$(cat rt-status)\"",
         );
@@ -133,8 +135,13 @@ fn what_is_built_and_when() {
         errors: "rt: news\nrt: news\n".to_owned(),
         ..answer.clone()
     };
+    let first = "afa: the library is proved and built first, which takes some minutes\n";
+    let from_nothing = Ended {
+        errors: format!("{first}rt: news\nrt: news\n"),
+        ..answer.clone()
+    };
     let all = "rt check exports\nrt staticlib exports\n";
-    assert_eq!(repository.check(), twice);
+    assert_eq!(repository.check(), from_nothing);
     assert_eq!(repository.calls(), all);
     // Nothing is missing or old.
     assert_eq!(repository.check(), answer);
@@ -144,7 +151,7 @@ fn what_is_built_and_when() {
     assert_eq!(repository.check(), twice);
     assert_eq!(repository.calls(), all);
     fs::remove_file(repository.folder.join("target/staticlib/libexports.a")).unwrap();
-    assert_eq!(repository.check(), twice);
+    assert_eq!(repository.check(), from_nothing);
     assert_eq!(repository.calls(), all);
 }
 
