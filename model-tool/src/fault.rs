@@ -149,6 +149,7 @@ mod tests {
     fn words_are_shown_harmless() {
         assert_eq!(quoted("it's"), "'it's'");
         assert_eq!(quoted("a\u{1b}[2Jb"), "'a\\u{1b}[2Jb'");
+        assert_eq!(harmless("a\u{1b}[2Jb\t\n\u{e4}"), "a\\u{1b}[2Jb\\t\n\u{e4}");
         let long = "x".repeat(41);
         assert_eq!(quoted(&long), format!("'{}..'", "x".repeat(40)));
         assert_eq!(quoted(&long[1..]), format!("'{}'", "x".repeat(40)));

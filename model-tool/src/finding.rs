@@ -146,7 +146,7 @@ pub fn shown(least: u64) -> String {
     }
 }
 
-pub fn count(number: u64, what: &str) -> String {
+fn count(number: u64, what: &str) -> String {
     match number {
         1 => format!("1 {what}"),
         _ => format!("{number} {what}s"),

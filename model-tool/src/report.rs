@@ -33,7 +33,7 @@ pub fn accepting_run(model: &Model, run: &[Moment]) -> String {
 
 /// Why the last case is the forbidden picture.
 pub fn forbidden(model: &Model, last: Case) -> String {
-    if last == Case::default() {
+    if last.is_empty() {
         return "forbidden: nothing is left, and the empty case is final".to_owned();
     }
     format!(

@@ -784,6 +784,39 @@ fn a_broken_record_is_refused_at_its_line() {
     }
 }
 
+/// What a file claims is looked at before the run goes on, which here would take hours.
+#[test]
+fn a_forged_file_is_refused_before_its_run() {
+    let folder = scratch("saves-at-once");
+    let path = folder.join("a.run");
+    let model = common::file(&folder, "long.txt", common::rings(&[2, 3, 5, 7, 11, 13]));
+    let image = common::program().args(["image", &model]).output().unwrap();
+    let image: String = image
+        .stdout
+        .iter()
+        .map(|byte| format!("{byte:02x}"))
+        .collect();
+    for record in [
+        "6 0 5 0 0 0 0 0",
+        "6 0 5 1 0 0 0 0",
+        "6 0 1 1 0 0 0 0",
+        "6 0 1 0 0 0 0 0",
+    ] {
+        let lines = format!(
+            "saved-run 1\nimage {image}\nrooms 65536 65536\nedition 1\nway 0\nhints 0\nrecord {record}\n"
+        );
+        fs::write(&path, with_digest(&lines)).unwrap();
+        let mut command = common::program();
+        command.args(["check", &model, "--resume", text(&path)]);
+        let ended = common::run_within(20, &mut command);
+        assert_refused(&ended, text(&path), record);
+        assert!(
+            ended.errors.ends_with(": it has not come so far\n"),
+            "{ended:?}"
+        );
+    }
+}
+
 /// A small model with states and events by number.
 fn random_model(random: &mut Random) -> String {
     let states = 1 + random.below(4);

@@ -9,7 +9,7 @@ use std::fs::{self, File, OpenOptions};
 use std::io::{self, Read, Write};
 use std::os::fd::FromRawFd;
 use std::os::unix::fs::OpenOptionsExt;
-use std::os::unix::process::ExitStatusExt;
+use std::os::unix::process::{CommandExt, ExitStatusExt};
 use std::path::{Path, PathBuf};
 use std::process::{Child, Command, Stdio};
 use std::thread;
@@ -21,6 +21,7 @@ extern "C" {
     fn unlockpt(terminal: c_int) -> c_int;
     fn ptsname_r(terminal: c_int, name: *mut c_char, length: usize) -> c_int;
     fn kill(process: c_int, signal: c_int) -> c_int;
+    fn signal(number: c_int, handler: usize) -> usize;
 }
 
 // As Linux has them.
@@ -31,6 +32,9 @@ const CLOSED_ON_EXEC: c_int = 0o2_000_000;
 const HANG_UP: c_int = 1;
 const INTERRUPT: c_int = 2;
 const TERMINATE: c_int = 15;
+
+/// What a signal does by itself.
+const DEFAULT: usize = 0;
 
 /// What takes the line of progress away.
 const ERASED: &str = "\r\x1b[K";
@@ -99,9 +103,20 @@ fn start(mut command: Command, on_terminal: bool) -> Running {
     Running { child, terminal }
 }
 
+/// A check that minds signals, whoever runs the tests: a shell has what it runs in the background ignore
+/// interrupts.
 fn check(model: &Path, options: &[&str]) -> Command {
     let mut command = program();
     command.arg("check").arg(model).args(options);
+    let mind = || {
+        for number in [HANG_UP, INTERRUPT, TERMINATE] {
+            // SAFETY: signal may be called between fork and exec.
+            unsafe { signal(number, DEFAULT) };
+        }
+        Ok(())
+    };
+    // SAFETY: what is called does nothing else.
+    unsafe { command.pre_exec(mind) };
     command
 }
 

@@ -18,7 +18,8 @@ mod wrong_use;
 use common::json::{self, Value};
 use common::reader::{Model, Set};
 use common::{
-    afa, afa_reading, file, models, program, rings, run, scratch, text_of, Ended, Random,
+    afa, afa_reading, file, models, program, rings, run, run_within, scratch, text_of, Ended,
+    Random,
 };
 use std::collections::BTreeSet;
 use std::ffi::OsStr;
@@ -27,7 +28,6 @@ use std::io;
 use std::os::unix::ffi::OsStrExt;
 use std::path::Path;
 use std::process::{Command, Stdio};
-use std::time::{Duration, Instant};
 
 const COMMANDS: [&str; 6] = ["check", "image", "text", "test", "run", "why"];
 

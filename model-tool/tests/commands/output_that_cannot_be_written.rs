@@ -2,30 +2,6 @@
 
 use super::*;
 
-/// Like [`run`], but the command must end within so many seconds.
-fn run_within(seconds: u64, command: &mut Command) -> Ended {
-    let begun = Instant::now();
-    command
-        .stdin(Stdio::null())
-        .stdout(Stdio::piped())
-        .stderr(Stdio::piped());
-    let mut child = command.spawn().unwrap();
-    while child.try_wait().unwrap().is_none() {
-        if begun.elapsed() > Duration::from_secs(seconds) {
-            child.kill().unwrap();
-            child.wait().unwrap();
-            panic!("{command:?} ran for over {seconds} seconds");
-        }
-        std::thread::sleep(Duration::from_millis(5));
-    }
-    let ended = child.wait_with_output().unwrap();
-    Ended {
-        status: ended.status.code().unwrap(),
-        output: String::from_utf8(ended.stdout).unwrap(),
-        errors: String::from_utf8(ended.stderr).unwrap(),
-    }
-}
-
 /// A model whose run takes long.
 fn long(folder: &Path) -> String {
     file(folder, "long.txt", rings(&[2, 3, 5, 7, 11, 13]))
@@ -131,6 +107,10 @@ fn a_link_to_a_saved_run_keeps_it_until_the_next() {
     let ended = stop(&["--allowance", "10", "--resume", link, "--save", link]);
     assert_eq!(ended.status, 2, "{ended:?}");
     assert_eq!(stop(&["--resume", link]).status, 1);
+    // One that is shorter takes the place of the whole.
+    assert_eq!(stop(&["--allowance", "1", "--save", link]).status, 2);
+    assert_eq!(stop(&["--resume", saved]).status, 1);
+    assert!(fs::symlink_metadata(link).unwrap().is_symlink());
 }
 
 #[test]

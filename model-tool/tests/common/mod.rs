@@ -8,6 +8,8 @@ use std::fs;
 use std::io::Write;
 use std::path::{Path, PathBuf};
 use std::process::{Command, Output, Stdio};
+use std::thread::sleep;
+use std::time::{Duration, Instant};
 
 /// The repository's root, from which every command is run.
 pub fn root() -> PathBuf {
@@ -49,6 +51,23 @@ fn ended(command: &Command, ended: Output) -> Ended {
         output,
         errors,
     }
+}
+
+/// Like [`run`], but the command must end within so many seconds.
+pub fn run_within(seconds: u64, command: &mut Command) -> Ended {
+    let begun = Instant::now();
+    command.stdin(Stdio::null());
+    command.stdout(Stdio::piped()).stderr(Stdio::piped());
+    let mut child = command.spawn().expect("it starts");
+    while child.try_wait().unwrap().is_none() {
+        if begun.elapsed() > Duration::from_secs(seconds) {
+            child.kill().unwrap();
+            child.wait().unwrap();
+            panic!("{command:?} ran for over {seconds} seconds");
+        }
+        sleep(Duration::from_millis(5));
+    }
+    ended(command, child.wait_with_output().unwrap())
 }
 
 /// The program, from the repository's root.
