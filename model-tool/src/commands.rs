@@ -50,17 +50,18 @@ fn dispatch(words: &[String]) -> Result<u8, Failure> {
         "test" => test(words),
         "run" => run(words),
         "why" => why(words),
-        _ => Ok(page(name).map(|_| NO_ANSWER)?),
+        _ => Err(unknown_command(name).into()),
     }
 }
 
 fn page(command: &str) -> Result<&'static str, String> {
-    let unknown = || {
-        let expected = expected_one_of(command, help::COMMANDS.to_vec());
-        let command = quoted(command);
-        format!("{command} is no command{expected}; afa --help says what they do")
-    };
-    help::page(command).ok_or_else(unknown)
+    help::page(command).ok_or_else(|| unknown_command(command))
+}
+
+fn unknown_command(command: &str) -> String {
+    let expected = expected_one_of(command, help::COMMANDS.to_vec());
+    let command = quoted(command);
+    format!("{command} is no command{expected}; afa --help says what they do")
 }
 
 /// Prints what a command has to say. The status is passed on.

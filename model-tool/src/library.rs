@@ -7,6 +7,31 @@ mod tests;
 
 use crate::numbers::Refusal;
 
+/// Declares functions of runs: all take the image, the tables and the hints, each with its length, and more.
+macro_rules! functions_of_runs {
+    ($($function:ident($($more:ident: $kind:ty),+);)+) => {
+        extern "C" {
+            $(pub fn $function(
+                image: *const u8,
+                image_len: usize,
+                masks: *mut u64,
+                masks_len: usize,
+                levels: *mut u32,
+                levels_len: usize,
+                entered: *mut u64,
+                entered_len: usize,
+                cases: *mut u64,
+                cases_len: usize,
+                symbols: *mut u8,
+                symbols_len: usize,
+                hints: *const u64,
+                hints_len: usize,
+                $($more: $kind),+
+            ) -> u64;)+
+        }
+    };
+}
+
 /// As `include/afa.h` declares them.
 mod interface {
     extern "C" {
@@ -26,65 +51,6 @@ mod interface {
             room_len: usize,
             length: *mut u64,
         ) -> u64;
-        pub fn afa_run(
-            image: *const u8,
-            image_len: usize,
-            masks: *mut u64,
-            masks_len: usize,
-            levels: *mut u32,
-            levels_len: usize,
-            entered: *mut u64,
-            entered_len: usize,
-            cases: *mut u64,
-            cases_len: usize,
-            symbols: *mut u8,
-            symbols_len: usize,
-            hints: *const u64,
-            hints_len: usize,
-            allowance: u64,
-            edition: u64,
-            way: u64,
-            counts: *mut u64,
-        ) -> u64;
-        pub fn afa_begin(
-            image: *const u8,
-            image_len: usize,
-            masks: *mut u64,
-            masks_len: usize,
-            levels: *mut u32,
-            levels_len: usize,
-            entered: *mut u64,
-            entered_len: usize,
-            cases: *mut u64,
-            cases_len: usize,
-            symbols: *mut u8,
-            symbols_len: usize,
-            hints: *const u64,
-            hints_len: usize,
-            edition: u64,
-            way: u64,
-            record: *mut u64,
-        ) -> u64;
-        pub fn afa_step(
-            image: *const u8,
-            image_len: usize,
-            masks: *mut u64,
-            masks_len: usize,
-            levels: *mut u32,
-            levels_len: usize,
-            entered: *mut u64,
-            entered_len: usize,
-            cases: *mut u64,
-            cases_len: usize,
-            symbols: *mut u8,
-            symbols_len: usize,
-            hints: *const u64,
-            hints_len: usize,
-            allowance: u64,
-            edition: u64,
-            way: u64,
-            record: *mut u64,
-        ) -> u64;
         pub fn afa_why(
             initial: u64,
             masks: *const u64,
@@ -95,6 +61,12 @@ mod interface {
             mask: u64,
             found: *mut u64,
         ) -> u64;
+    }
+
+    functions_of_runs! {
+        afa_run(allowance: u64, edition: u64, way: u64, counts: *mut u64);
+        afa_begin(edition: u64, way: u64, record: *mut u64);
+        afa_step(allowance: u64, edition: u64, way: u64, record: *mut u64);
     }
 }
 

@@ -1,27 +1,17 @@
 //! Tests: a model keeps its image on the way to text and back.
 
+#[allow(dead_code)]
+#[path = "../tests/common/random.rs"]
+mod random;
+
 use crate::image;
 use crate::model::{Case, Model, Names, Part, Row, State};
 use crate::text;
+use random::Random;
 use std::fs;
 use std::path::Path;
 
-/// A small generator of random numbers (splitmix64), always from the same seed.
-struct Random(u64);
-
 impl Random {
-    fn number(&mut self) -> u64 {
-        self.0 = self.0.wrapping_add(0x9e37_79b9_7f4a_7c15);
-        let mut mixed = self.0;
-        mixed = (mixed ^ (mixed >> 30)).wrapping_mul(0xbf58_476d_1ce4_e5b9);
-        mixed = (mixed ^ (mixed >> 27)).wrapping_mul(0x94d0_49bb_1331_11eb);
-        mixed ^ (mixed >> 31)
-    }
-
-    fn below(&mut self, bound: usize) -> usize {
-        (self.number() % bound as u64) as usize
-    }
-
     fn case(&mut self, state_count: usize) -> Case {
         Case(self.number() & self.number() & (u64::MAX >> (64 - state_count)))
     }

@@ -253,21 +253,17 @@ fn once<T>(place: &mut Option<T>, word: &str, value: T) -> Said<()> {
 
 /// The names on a line `states` or `events`, or numbers for names if it says how many.
 fn names(what: &str, words: &[Word], most: usize) -> Said<Names> {
-    let is_count = |word: &Word| word.text.bytes().all(|byte| byte.is_ascii_digit());
-    let (said, count) = match words {
-        [word] if is_count(word) => (
-            shortened(word.text),
-            decimal(word.text).unwrap_or(usize::MAX),
-        ),
-        _ => (words.len().to_string(), words.len()),
-    };
-    if !(1..=most).contains(&count) {
-        return Err((1, format!("{said} {what}: expected 1 to {most}")));
-    }
-    if let [word] = words {
-        if is_count(word) {
+    let wrong = |said: String| (1, format!("{said} {what}: expected 1 to {most}"));
+    let range = 1..=most;
+    if let [Word { text, .. }] = words {
+        if text.bytes().all(|byte| byte.is_ascii_digit()) {
+            let count = decimal(text).filter(|count| range.contains(count));
+            let count = count.ok_or_else(|| wrong(shortened(text)))?;
             return Ok(Names::numbered(count));
         }
+    }
+    if !range.contains(&words.len()) {
+        return Err(wrong(words.len().to_string()));
     }
     let mut names: Vec<String> = Vec::new();
     for (word, place) in words.iter().zip(1..) {

@@ -6,7 +6,7 @@ use crate::files;
 use crate::finding::Outcome;
 use crate::library::{MOST_PLACES, WORKING};
 use crate::model::Model;
-use crate::numbers::{Failure, Refusal};
+use crate::numbers::Failure;
 use crate::options::{Known, Words};
 use crate::run::{Run, Settings};
 use crate::save::{self, Saved};
@@ -29,23 +29,18 @@ pub const OPTIONS: [Known; 7] = [
 pub fn run(model: &Model, image: &[u8], words: &Words) -> Result<(Run, Outcome), Failure> {
     let allowance = words.number("--allowance")?.unwrap_or(u64::MAX);
     let Some(path) = words.value("--resume") else {
-        let mut run = begin(model, image, words)?;
-        watch(&mut run, image, allowance)?;
-        let outcome = Outcome::of(image, &run, allowance)?;
-        return Ok((run, outcome));
+        return watch(begin(model, image, words)?, image, allowance);
     };
-    let mut run = resumed(model, image, words, path)?;
-    let watched = watch(&mut run, image, allowance);
+    let run = resumed(model, image, words, path)?;
     let path = files::named(path);
-    watched.map_err(|refusal| Failure::from(refusal).in_file(path))?;
-    let outcome = Outcome::of(image, &run, allowance);
-    let outcome = outcome.map_err(|failure| failure.in_file(path))?;
+    let watched = watch(run, image, allowance);
+    let (run, outcome) = watched.map_err(|failure| failure.in_file(path))?;
     let confirmed = confirm(model, &outcome, &run.blockers());
     confirmed.map_err(|why| no_run(path, why))?;
     Ok((run, outcome))
 }
 
-fn watch(run: &mut Run, image: &[u8], allowance: u64) -> Result<(), Refusal> {
+fn watch(mut run: Run, image: &[u8], allowance: u64) -> Result<(Run, Outcome), Failure> {
     note_interrupts();
     let mut progress = Progress::new(&run.record);
     let ended = run.go_on(image, allowance, |record| {
@@ -56,7 +51,9 @@ fn watch(run: &mut Run, image: &[u8], allowance: u64) -> Result<(), Refusal> {
         }
     });
     progress.end();
-    ended
+    ended?;
+    let outcome = Outcome::of(image, &run, allowance)?;
+    Ok((run, outcome))
 }
 
 fn begin(model: &Model, image: &[u8], words: &Words) -> Result<Run, Failure> {

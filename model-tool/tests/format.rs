@@ -1,12 +1,9 @@
 //! The examples of `docs/FORMAT.md`: its texts are read, and the bytes are those of `models/c.txt`.
 
-use std::fs;
-use std::path::{Path, PathBuf};
-use std::process::Command;
+mod common;
 
-fn root() -> PathBuf {
-    Path::new(env!("CARGO_MANIFEST_DIR")).join("..")
-}
+use common::{file, program, root, scratch};
+use std::fs;
 
 /// The indented lines after the line that begins so, up to the next one that is not indented.
 fn example(begins: &str) -> String {
@@ -17,23 +14,21 @@ fn example(begins: &str) -> String {
     lines.map(|line| line.to_owned() + "\n").collect()
 }
 
-fn image(model: &Path) -> Vec<u8> {
-    let tool = env!("CARGO_BIN_EXE_afa");
-    let ended = Command::new(tool).arg("image").arg(model).output().unwrap();
+fn image(model: &str) -> Vec<u8> {
+    let ended = program().args(["image", model]).output().unwrap();
     assert!(ended.status.success(), "{ended:?}");
     ended.stdout
 }
 
 /// The image of a text of the page.
 fn image_of_example(name: &str, begins: &str) -> Vec<u8> {
-    let path = Path::new(env!("CARGO_TARGET_TMPDIR")).join(name);
-    fs::write(&path, example(begins)).unwrap();
-    image(&path)
+    let folder = scratch(&format!("format-{name}"));
+    image(&file(&folder, name, example(begins)))
 }
 
 #[test]
 fn texts() {
-    let image_of_c = image(&root().join("models/c.txt"));
+    let image_of_c = image("models/c.txt");
     assert_eq!(image_of_example("c.txt", "`models/c.txt` says"), image_of_c);
     let other = image_of_example("format.txt", "## A model as text");
     assert_eq!(other[..4], [3, 2, 1, 0]);
@@ -52,5 +47,5 @@ fn bytes() {
         bytes.extend(digits.split(' ').map(byte));
     }
     assert_eq!(bytes.len(), 63);
-    assert_eq!(bytes, image(&root().join("models/c.txt")));
+    assert_eq!(bytes, image("models/c.txt"));
 }

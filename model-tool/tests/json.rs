@@ -3,17 +3,9 @@
 
 mod common;
 
-use common::json::{object, parse, Value};
+use common::json::{object, parse, Value, KEYS};
 use common::reader::{Model, Set};
-use common::{afa, afa_reading, file, models, program, rings, scratch, text_of, Ended, Random};
-use std::process::{Command, Stdio};
-use std::thread::sleep;
-use std::time::{Duration, Instant};
-
-const KEYS: [&str; 12] = [
-    "model", "verdict", "sentence", "number", "steps", "level", "blockers", "hints", "least",
-    "word", "run", "frame",
-];
+use common::{afa, afa_reading, file, models, scratch, text_of, Ended, Random};
 
 const NUMBERS: [&str; 5] = ["number", "steps", "level", "blockers", "hints"];
 
@@ -290,41 +282,6 @@ fn every_kind_of_refusal() {
         let sentence = format!("refused under number {number}: ");
         assert_no_answer(&ended, "models/b.txt", Some(number), &sentence);
     }
-}
-
-#[test]
-fn an_interrupt() {
-    let folder = scratch("json-interrupt");
-    let path = file(&folder, "long.txt", rings(&[2, 3, 5, 7, 11, 13]));
-    let mut command = program();
-    command
-        .args(["check", &path, "--json"])
-        .stdin(Stdio::null());
-    command.stdout(Stdio::piped()).stderr(Stdio::piped());
-    let mut child = command.spawn().unwrap();
-    // Long enough that the run has begun: before, the signal ends the program at once.
-    sleep(Duration::from_millis(500));
-    // Not -INT, which a shell that runs the tests in the background has them ignore.
-    let kill = ["-TERM", &child.id().to_string()];
-    assert!(Command::new("kill").args(kill).status().unwrap().success());
-    let begun = Instant::now();
-    while child.try_wait().unwrap().is_none() {
-        if begun.elapsed() > Duration::from_secs(10) {
-            child.kill().unwrap();
-            panic!("it goes on for 10 seconds");
-        }
-        sleep(Duration::from_millis(5));
-    }
-    let ended = child.wait_with_output().unwrap();
-    assert_eq!(ended.status.code(), Some(2));
-    let value = object(&String::from_utf8(ended.stdout).unwrap());
-    assert_eq!(value.keys(), KEYS);
-    assert_eq!(value.get("verdict").text(), "stopped");
-    assert_eq!(value.get("sentence").text(), "it was interrupted");
-    let [number, steps, level, blockers, hints] = numbers(&value);
-    assert_eq!((number, hints), (6, 0));
-    assert!(steps > blockers && blockers > 0 && level > 0, "{value:?}");
-    assert_eq!(value.get("least").number(), level);
 }
 
 /// An object that says what standard error says, and the number if the library has refused.

@@ -335,6 +335,13 @@ fn an_older_saved_run_behind_a_link_is_kept() {
     let both = ["--save", text(&link), "--resume", text(&link)];
     let on = check_with("models/stall.txt", &both, &["--allowance", "40"]);
     assert_stopped(&on, "through the link");
+    let to_the_end = || check("models/stall.txt", &["--resume", text(&link)]);
+    assert_eq!(to_the_end(), check("models/stall.txt", &[]));
+    // One that is shorter takes the place of the whole, and the link stays one.
+    let shorter = ["--allowance", "1", "--save", text(&link)];
+    assert_stopped(&check("models/stall.txt", &shorter), "shorter");
+    assert_eq!(to_the_end(), check("models/stall.txt", &[]));
+    assert!(fs::symlink_metadata(&link).unwrap().is_symlink());
 }
 
 #[test]

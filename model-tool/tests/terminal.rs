@@ -3,6 +3,7 @@
 
 mod common;
 
+use common::json::{object, KEYS};
 use common::{program, rings, scratch, Ended};
 use std::ffi::{c_char, c_int, CStr};
 use std::fs::{self, File, OpenOptions};
@@ -250,14 +251,6 @@ fn a_terminal_that_goes_away_ends_no_run() {
     assert_eq!(running.end(), expected);
 }
 
-#[test]
-fn an_error_that_cannot_be_told_is_no_panic() {
-    let mut command = check(Path::new("models/nowhere.txt"), &[]);
-    let full = OpenOptions::new().write(true).open("/dev/full").unwrap();
-    let ended = command.stdin(Stdio::null()).stderr(full).output().unwrap();
-    assert_eq!((ended.status.code(), ended.stdout), (Some(3), vec![]));
-}
-
 /// What an interrupted run says of itself.
 fn assert_interrupted(ended: &Ended) {
     assert_eq!(ended.status, 2, "{ended:?}");
@@ -299,18 +292,18 @@ fn programs_are_told_of_an_interrupt_by_its_number() {
     let running = start(check(&model, &["--json"]), false);
     let ended = interrupted(running, INTERRUPT, Duration::from_millis(100));
     assert_eq!((ended.status, ended.errors.as_str()), (2, ""));
-    let after = |name: &str| {
-        let (_, value) = ended.output.split_once(&format!("\"{name}\": ")).unwrap();
-        value.split(", \"").next().unwrap().to_owned()
-    };
-    assert_eq!(after("verdict"), "\"stopped\"");
-    assert_eq!(after("sentence"), "\"it was interrupted\"");
-    assert_eq!(after("number"), "6");
-    assert_eq!(after("least"), after("level"));
-    assert!(after("level").parse::<u64>().unwrap() > 1);
-    assert!(ended
-        .output
-        .ends_with("\"word\": null, \"run\": null, \"frame\": null}\n"));
+    let value = object(&ended.output);
+    assert_eq!(value.keys(), KEYS);
+    assert_eq!(value.get("verdict").text(), "stopped");
+    assert_eq!(value.get("sentence").text(), "it was interrupted");
+    let number = |key: &str| value.get(key).number();
+    assert_eq!((number("number"), number("hints")), (6, 0));
+    assert_eq!(number("least"), number("level"));
+    assert!(number("level") > 1, "{value:?}");
+    assert!(number("steps") > number("blockers") && number("blockers") > 0);
+    for key in ["word", "run", "frame"] {
+        assert!(value.get(key).is_null(), "{key}");
+    }
 }
 
 /// The first interrupt is noted, and the run ends; but its report does not, as nobody reads what it is

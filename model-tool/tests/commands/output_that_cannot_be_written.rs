@@ -97,23 +97,6 @@ fn one_file_for_the_page_and_for_the_run() {
 }
 
 #[test]
-fn a_link_to_a_saved_run_keeps_it_until_the_next() {
-    let folder = scratch("commands-link");
-    let (saved, link) = (folder.join("saved"), folder.join("link"));
-    let [saved, link] = [&saved, &link].map(|path| path.to_str().unwrap());
-    let stop = |words: &[&str]| afa(&[&["check", "models/screen.txt"], words].concat());
-    assert_eq!(stop(&["--allowance", "5", "--save", saved]).status, 2);
-    std::os::unix::fs::symlink(saved, link).unwrap();
-    let ended = stop(&["--allowance", "10", "--resume", link, "--save", link]);
-    assert_eq!(ended.status, 2, "{ended:?}");
-    assert_eq!(stop(&["--resume", link]).status, 1);
-    // One that is shorter takes the place of the whole.
-    assert_eq!(stop(&["--allowance", "1", "--save", link]).status, 2);
-    assert_eq!(stop(&["--resume", saved]).status, 1);
-    assert!(fs::symlink_metadata(link).unwrap().is_symlink());
-}
-
-#[test]
 fn a_page_that_cannot_be_finished_does_not_cost_the_verdict() {
     let ended = afa(&["check", "models/b.txt", "--html", "/dev/full"]);
     assert_eq!(ended.status, 3, "{ended:?}");
@@ -214,17 +197,15 @@ fn standard_output_is_closed() {
 #[test]
 fn standard_error_is_full() {
     for (words, output) in [
-        (&["chekc"][..], Stdio::null()),
-        (&["check", "models/none.txt"], Stdio::null()),
+        (&["chekc"][..], Stdio::piped()),
+        (&["check", "models/none.txt"], Stdio::piped()),
         (&["check", "models/b.txt"], full().into()),
     ] {
         let mut command = program();
-        let ended = command
-            .args(words)
-            .stdout(output)
-            .stderr(full())
-            .status()
-            .unwrap();
-        assert_eq!(ended.code(), Some(3), "{words:?}");
+        command.args(words).stdin(Stdio::null());
+        let child = command.stdout(output).stderr(full()).spawn();
+        let ended = child.unwrap().wait_with_output().unwrap();
+        let told = (ended.status.code(), ended.stdout);
+        assert_eq!(told, (Some(3), Vec::new()), "{words:?}");
     }
 }

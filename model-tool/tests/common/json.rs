@@ -3,6 +3,12 @@
 use std::iter::Peekable;
 use std::str::Chars;
 
+/// The keys of the object that `check --json` prints, in their order.
+pub const KEYS: [&str; 12] = [
+    "model", "verdict", "sentence", "number", "steps", "level", "blockers", "hints", "least",
+    "word", "run", "frame",
+];
+
 #[derive(Clone, Debug, PartialEq, Eq)]
 pub enum Value {
     Null,
