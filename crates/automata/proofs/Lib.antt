@@ -4,6 +4,7 @@ pub mod ValidImage
 pub mod Reading
 pub mod BackwardSets
 pub mod RowWalks
+pub mod EachSymbol
 pub mod PickedRuns
 pub mod PickWalks
 pub mod AcceptedWords

@@ -63,6 +63,9 @@ module _ {image : List ℕ} {head : Head} (read : ReadAs image head) where
   pub head-rows : head .rows ≡ rowCountOf image
   head-rows = ap (λ (h : Head). h .rows) (read .read)
 
+  pub rows-below : (bound : ℕ) → head .rows < bound → rowCountOf image < bound
+  rows-below bound l = rw (← head-rows) l
+
   pub initial-narrow : head .initial < 2 ^ 64
   initial-narrow = rw head-initial (case-narrow image (read .valid) (initialOf image) (valid-kept image (read .valid) .initial-within))
 

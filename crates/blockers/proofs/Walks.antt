@@ -1,27 +1,25 @@
 -- Walks over blockers: what remains of one at a place, four tests joined, and the search for the first blocker that covers a case; and the search of a list.
 -- Assumes nothing.
-use Prim.Native.Nat.{ℕ, zero, suc, _+_, _-_, _%_, _≤_, _<_, min}
-use mathlib.Core.Path.{_≡_, refl, sym, ap, _∙_}
+use Prim.Native.Nat.{ℕ, zero, suc, _+_, _-_, _≤_, _<_, min}
+use mathlib.Core.Path.{_≡_, refl, sym, ap, subst, _∙_}
 use mathlib.Core.Bool.{Bool, true, false, _||_}
-use mathlib.Core.List.{List, [], _∷_, _++_}
-use mathlib.Core.Logic.{_⊎_, inl, inr}
-use native.Mathlib.Nat.{zero-add}
+use mathlib.Core.List.{List, [], _∷_}
+use native.Mathlib.Nat.{sub-zero}
 use native.Mathlib.Numerals.{add-one}
-use native.Mathlib.Decide.{decLe}
+use native.Mathlib.Decide.{ℕ-discrete, decLe}
 use native.Mathlib.Omega.{arith}
 use lib.ListN.{length, take, drop, getD, drop-of-length-le, take-append-drop}
 use lib.Seq.{drop-drop}
 use Rattle.lists.specs.Tests.{_or_, neg}
 use Rattle.lists.specs.Lists.{any}
-use Rattle.lists.proofs.Tests.{holds, fails, or-neither, or-none}
+use Rattle.lists.proofs.Tests.{or-neither, or-none}
 use Rattle.lists.proofs.Lists.{any-append, drop-first}
 use Rattle.machine.specs.Machine.{Blocker, covers}
 use Rattle.machine.specs.Lent.{BlockerRoom, blockerAt, blockersFrom, unstampedRoom, blockersIn}
 use Rattle.machine.specs.Why as Why
 use Rattle.machine.specs.Why.{firstCovering, isReason}
-use Rattle.machine.proofs.LentTables.{blockers-length}
-use Rattle.machine.proofs.Reasons.{first-covers, first-misses, first-behind, covering-any}
-use Rattle.blockers.specs.Answers.{reasonOf, Misses}
+use Rattle.machine.proofs.Reasons.{first-covers, first-misses, covering-any}
+use Rattle.blockers.specs.Answers.{reasonOf, Skips}
 use Rattle.blockers.specs.declared.Level.{Level}
 use Rattle.blockers.specs.declared.reasons.Reason.{Reason}
 use Rattle.blockers.specs.declared.reasons.Reason.the-variants.{ByBlocker, Nothing}
@@ -77,131 +75,95 @@ four-tested test list i a b c d r l ea eb ec ed e =
     let fourth = drop-first list (i + 3) (omega arith) in
     any-of-four test _ _ _ _ a b c d r ea eb ec ed e ∙ sym (rw (first, second, two, third, three, fourth))
 
--- some blockers, and those behind them
-pub blockers-split : (room : BlockerRoom) (first second at : ℕ)
-    → blockersFrom room first at ++ blockersFrom room second (at + first) ≡ blockersFrom room (first + second) at
-unfolding blockersFrom
-blockers-split room zero second at =
-    let e : second ≡ zero + second = omega arith in
-    let s : at + zero ≡ at = omega arith in
-    ap (λ (k : ℕ). blockersFrom room second k) s ∙ ap (λ (k : ℕ). blockersFrom room k at) e
-blockers-split room (suc first) second at =
-    let e : at + suc first ≡ suc at + first = omega arith in
-    let s : suc first + second ≡ suc (first + second) = omega arith in
-    rw (e, s) (ap (λ (rest : List Blocker). blockerAt room at ∷ rest) (blockers-split room first second (suc at)))
-
-any-parts : (test : Blocker → Bool) (room : BlockerRoom) (first rest at : ℕ)
-    → any test (blockersFrom room (first + rest) at) ≡ any test (blockersFrom room first at) or any test (blockersFrom room rest (at + first))
-any-parts test room first rest at =
-    ap (any test) (sym (blockers-split room first rest at)) ∙ any-append test (blockersFrom room first at) (blockersFrom room rest (at + first))
-
--- How many first blockers are known not to cover the case, before place i: those before it.
-pub record Missing (masks levels : List ℕ) (count level case i : ℕ) : Type 0 where
-  pub all : count ≡ min (length masks) (length levels)
-  pub few : i ≤ count
-  pub eights : i % 8 ≡ 0
-  pub missed : any (covers level case) (blockersFrom (unstampedRoom masks levels) i 0) ≡ false
-
-pub misses-start : {masks levels : List ℕ} {count level case : ℕ} → count ≡ min (length masks) (length levels)
-    → Missing masks levels count level case 0
+-- none of some blockers passes a test
+none-passes : (test : Blocker → Bool) (room : BlockerRoom) (count at : ℕ) → any test (blockersFrom room count at) ≡ false
+    → (i : ℕ) → at ≤ i → i < at + count → test (blockerAt room i) ≡ false
 unfolding any blockersFrom
-misses-start all = record { all = all; few = omega arith; eights = omega arith; missed = refl }
+none-passes test room zero at none i l h = absurd (omega arith)
+none-passes test room (suc count) at none i l h =
+    let two = or-neither (test (blockerAt room at)) (any test (blockersFrom room count (suc at))) none in
+    by (two .0) (λ a b. none-passes test room count (suc at) (two .1) i a b) (ℕ-discrete i at)
+  where
+    by : test (blockerAt room at) ≡ false → (suc at ≤ i → i < suc at + count → test (blockerAt room i) ≡ false) → Dec (i ≡ at) → test (blockerAt room i) ≡ false
+    by here later (yes e) = rw e here
+    by here later (no n) = later (omega arith) (omega arith)
 
-module _ {masks levels : List ℕ} {count level case i : ℕ} (so-far : Missing masks levels count level case i) (eight : 8 ≤ count - i) where
-  -- one of the four blockers from `first` on covers the case
-  stops : (first : ℕ) → first ≤ i + 4 → first % 4 ≡ 0 → any (covers level case) (blockersFrom (unstampedRoom masks levels) first 0) ≡ false
-      → (b : Bool) → b ≡ any (covers level case) (blockersFrom (unstampedRoom masks levels) 4 first) → b ≡ true → Misses masks levels level case first
-  stops first l fours missed b e t =
-      let all = so-far .all in
-      record { few = omega arith; fours = fours; missed = missed; ended = inl (omega arith, sym e ∙ t) }
+-- the search by fours from a place on, before place i
+pub record Skipping (masks levels : List ℕ) (level case count from i : ℕ) : Type 0 where
+  pub all : count ≡ min (length masks) (length levels)
+  pub so-far : Skips masks levels level case from i
 
-  pub misses-here : (b : Bool) → b ≡ any (covers level case) (blockersFrom (unstampedRoom masks levels) 4 i) → b ≡ true
-      → Misses masks levels level case i
-  misses-here = stops i (omega arith) (omega (arith, so-far .eights)) (so-far .missed)
+pub skip-starts : {masks levels : List ℕ} {level case count from : ℕ} → count ≡ min (length masks) (length levels)
+    → from ≤ min (length masks) (length levels) → Skipping masks levels level case count from from
+skip-starts all l = record { all = all; so-far = record { begins = omega arith; few = l; missed = λ i a b. absurd (omega arith) } }
 
-  module _ (a : Bool) (ea : a ≡ any (covers level case) (blockersFrom (unstampedRoom masks levels) 4 i)) (fa : a ≡ false) where
-    four : any (covers level case) (blockersFrom (unstampedRoom masks levels) (i + 4) 0) ≡ false
-    unfolding _or_
-    four = any-parts (covers level case) (unstampedRoom masks levels) i 4 0 ∙ rw (zero-add i, so-far .missed, sym ea ∙ fa)
+skip-four : {masks levels : List ℕ} {level case from i : ℕ} → Skips masks levels level case from i → i + 4 ≤ min (length masks) (length levels)
+    → any (covers level case) (blockersFrom (unstampedRoom masks levels) 4 i) ≡ false → Skips masks levels level case from (i + 4)
+skip-four {masks} {levels} {level} {case} {from} {i} so-far l none =
+    record { begins = omega (arith, so-far .begins); few = l; missed = λ k a b. by k a b (decLe i k) }
+  where
+    by : (k : ℕ) → from ≤ k → k < i + 4 → Dec (i ≤ k) → covers level case (blockerAt (unstampedRoom masks levels) k) ≡ false
+    by k a b (yes h) = none-passes (covers level case) (unstampedRoom masks levels) 4 i none k h b
+    by k a b (no h) = so-far .missed k a (omega arith)
 
-    pub misses-next : (b : Bool) → b ≡ any (covers level case) (blockersFrom (unstampedRoom masks levels) 4 (i + 4)) → b ≡ true
-        → Misses masks levels level case (i + 4)
-    misses-next = stops (i + 4) (omega arith) (omega (arith, so-far .eights)) four
+module _ {masks levels : List ℕ} {level case count from i : ℕ} (skipping : Skipping masks levels level case count from i) where
+  pub skip-ends : Skips masks levels level case from i
+  skip-ends = skipping .so-far
 
-    pub misses-go : (b : Bool) → b ≡ any (covers level case) (blockersFrom (unstampedRoom masks levels) 4 (i + 4)) → b ≡ false
-        → Missing masks levels count level case (i + 8)
-    unfolding _or_
-    misses-go b e f =
-        let both : i + 8 ≡ i + 4 + 4 = omega arith in
+  module _ (eight : 8 ≤ count - i) {a : Bool} (ea : a ≡ any (covers level case) (blockersFrom (unstampedRoom masks levels) 4 i)) (fa : a ≡ false) where
+    pub skip-next : Skips masks levels level case from (i + 4)
+    skip-next = skip-four (skipping .so-far) (omega (arith, skipping .all)) (sym ea ∙ fa)
+
+    pub skip-goes : {b : Bool} → b ≡ any (covers level case) (blockersFrom (unstampedRoom masks levels) 4 (i + 4)) → b ≡ false
+        → Skipping masks levels level case count from (i + 8)
+    skip-goes eb fb =
+        let both : i + 4 + 4 ≡ i + 8 = omega arith in
         record {
-          all = so-far .all;
-          few = omega (arith, so-far .few);
-          eights = omega (arith, so-far .eights);
-          missed = rw both (any-parts (covers level case) (unstampedRoom masks levels) (i + 4) 4 0 ∙ rw (zero-add (i + 4), four, sym e ∙ f));
+          all = skipping .all;
+          so-far = subst (λ (k : ℕ). Skips masks levels level case from k) both (skip-four skip-next (omega (arith, skipping .all)) (sym eb ∙ fb));
         }
 
-pub misses-end : {masks levels : List ℕ} {count level case i : ℕ} → Missing masks levels count level case i → count - i < 8
-    → Misses masks levels level case i
-misses-end so-far l = record {
-  few = omega (arith, so-far .all, so-far .few);
-  fours = omega (arith, so-far .eights);
-  missed = so-far .missed;
-  ended = inr (so-far .eights, omega (arith, so-far .all, so-far .few));
-}
-
--- the count is determined: no two numbers are so
-module _ {masks levels : List ℕ} {level case a b : ℕ} (first : Misses masks levels level case a) (second : Misses masks levels level case b) where
-  not-above : a < b → ⊥
-  not-above l = at (first .ended) (second .ended)
-    where
-      later : a + 4 ≤ b
-      later = omega (arith, first .fours, second .fours)
-
-      before : any (covers level case) (blockersFrom (unstampedRoom masks levels) (a + 4) 0) ≡ false
-      before =
-          let parts : a + 4 + (b - (a + 4)) ≡ b = omega (arith, later) in
-          or-neither _ _
-          (sym (any-parts (covers level case) (unstampedRoom masks levels) (a + 4) (b - (a + 4)) 0)
-          ∙ ap (λ (count : ℕ). any (covers level case) (blockersFrom (unstampedRoom masks levels) count 0)) parts ∙ second .missed) .0
-
-      none : any (covers level case) (blockersFrom (unstampedRoom masks levels) 4 a) ≡ false
-      none = rw (zero-add a) at (or-neither _ _ (sym (any-parts (covers level case) (unstampedRoom masks levels) a 4 0) ∙ before) .1)
-
-      at : ((a + 4 ≤ min (length masks) (length levels)) × (any (covers level case) (blockersFrom (unstampedRoom masks levels) 4 a) ≡ true))
-          ⊎ ((a % 8 ≡ 0) × (min (length masks) (length levels) < a + 8))
-          → ((b + 4 ≤ min (length masks) (length levels)) × (any (covers level case) (blockersFrom (unstampedRoom masks levels) 4 b) ≡ true))
-          ⊎ ((b % 8 ≡ 0) × (min (length masks) (length levels) < b + 8))
-          → ⊥
-      at (inl found) e = fails none (holds (found .1))
-      at (inr end) (inl found) = omega (arith, later, end .1, found .0)
-      at (inr end) (inr other) = omega (arith, later, end .0, end .1, other .0, second .few, second .fours)
-
-pub misses-one : {masks levels : List ℕ} {level case a b : ℕ} → Misses masks levels level case a → Misses masks levels level case b → a ≡ b
-misses-one {a = a} {b = b} first second = at (decLe a b) (decLe b a)
-  where
-    at : Dec (a ≤ b) → Dec (b ≤ a) → a ≡ b
-    at (yes l) (yes m) = omega arith
-    at (yes l) (no m) = absurd (not-above first second (omega arith))
-    at (no l) m = absurd (not-above second first (omega arith))
+pub skip-none : {masks levels : List ℕ} {level case place : ℕ} → place < min (length masks) (length levels)
+    → Skips masks levels level case (place + 1) (place + 1)
+skip-none l = record { begins = omega arith; few = omega arith; missed = λ i a b. absurd (omega arith) }
 
 -- The walk over the blockers for the first that covers the case, before place i: what is left of it decides.
 pub record Walked (masks levels : List ℕ) (count level case i : ℕ) : Type 0 where
   pub all : count ≡ min (length masks) (length levels)
   pub left : firstCovering level case i (blockersFrom (unstampedRoom masks levels) (count - i) i) ≡ firstCovering level case 0 (blockersIn masks levels)
 
-pub walk-starts : {masks levels : List ℕ} {count level case i : ℕ} → count ≡ min (length masks) (length levels) → Misses masks levels level case i
-    → Walked masks levels count level case i
-walk-starts {masks} {levels} {count} {level} {case} {i} all misses =
-    let parts : min (length masks) (length levels) ≡ i + (count - i) = omega (arith, misses .few) in
+walk-starts : {masks levels : List ℕ} {count level case : ℕ} → count ≡ min (length masks) (length levels) → Walked masks levels count level case 0
+walk-starts {masks} {levels} {count} {level} {case} all =
     record {
       all = all;
-      left =
-          sym
-          (ap (λ (n : ℕ). firstCovering level case 0 (blockersFrom (unstampedRoom masks levels) n 0)) parts
-          ∙ ap (firstCovering level case 0) (sym (blockers-split (unstampedRoom masks levels) i (count - i) 0))
-          ∙ first-behind level case 0 (blockersFrom (unstampedRoom masks levels) i 0) _ (misses .missed)
-          ∙ rw (blockers-length (unstampedRoom masks levels) i 0, zero-add i));
+      left = ap (λ (n : ℕ). firstCovering level case 0 (blockersFrom (unstampedRoom masks levels) n 0)) (sub-zero count ∙ all);
     }
+
+-- past blockers that do not cover the case
+walk-skips : {masks levels : List ℕ} {count level case i r : ℕ} → Walked masks levels count level case i
+    → Skips masks levels level case i r → Walked masks levels count level case r
+walk-skips {masks} {levels} {count} {level} {case} {i} {r} so-far skips =
+    let whole : i + (r - i) ≡ r = omega (arith, skips .begins) in
+    subst (λ (k : ℕ). Walked masks levels count level case k) whole (far (r - i) (omega arith))
+  where
+    far : (n : ℕ) → n ≤ r - i → Walked masks levels count level case (i + n)
+    far zero l = let e : i ≡ i + zero = omega arith in subst (λ (k : ℕ). Walked masks levels count level case k) e so-far
+    far (suc n) l =
+        let e : i + suc n ≡ suc (i + n) = omega arith in
+        let one : i + n + 1 ≡ suc (i + n) = omega arith in
+        let before = far n (omega arith) in
+        let there : i + n < count = omega (arith, before .all, skips .few) in
+        record {
+          all = before .all;
+          left =
+              rw e
+              (sym (first-misses level case (i + n) (blockerAt (unstampedRoom masks levels) (i + n)) _ (skips .missed (i + n) (omega arith) (omega arith)))
+              ∙ ap (firstCovering level case (i + n)) (sym (rw one at (next-blocker (unstampedRoom masks levels) count (i + n) there))) ∙ before .left);
+        }
+
+pub walk-begins : {masks levels : List ℕ} {count level case r : ℕ} → count ≡ min (length masks) (length levels)
+    → Skips masks levels level case 0 r → Walked masks levels count level case r
+walk-begins all skips = walk-skips (walk-starts all) skips
 
 -- one blocker as the reason, by its test
 module _ (level case place : ℕ) (blocker : Blocker) (b : Bool) (test : b ≡ covers level case blocker) where
@@ -214,7 +176,7 @@ module _ (level case place : ℕ) (blocker : Blocker) (b : Bool) (test : b ≡ c
   reason-none f = sym (first-misses level case place blocker [] (sym test ∙ f))
 
 -- whether one blocker is a reason tells whether it covers the case
-one-told : (level case place : ℕ) (blocker : Blocker) (here : Reason) (told : Bool) → reasonOf here ≡ firstCovering level case place (blocker ∷ [])
+pub one-told : (level case place : ℕ) (blocker : Blocker) (here : Reason) (told : Bool) → reasonOf here ≡ firstCovering level case place (blocker ∷ [])
     → told ≡ isReason (reasonOf here) → covers level case blocker ≡ told
 unfolding any
 one-told level case place blocker here told e t =

@@ -6,7 +6,7 @@ use crate::one_of_four;
 use masks::State;
 ghost use mathlib.Core.Path.{_≡_};
 ghost use mathlib.Core.List.{[], _∷_};
-ghost use Prim.Native.Nat.{_+_, _<_, min};
+ghost use Prim.Native.Nat.{_+_, _≤_, _<_, min};
 ghost use lib.ListN.{length};
 ghost use Rattle.lists.specs.Lists.{any};
 ghost use Rattle.masks.specs.Sets.{lowestAbsent};
@@ -14,7 +14,7 @@ ghost use Rattle.machine.specs.Machine.{covers as coversCase};
 ghost use Rattle.machine.specs.Lent.{unstampedRoom, blockerAt, blockersFrom, blockersIn};
 ghost use Rattle.machine.specs.Why.{firstCovering, absentReason, isReason, why as whyBlocked};
 ghost use Rattle.blockers.specs.Room.{Holds};
-ghost use Rattle.blockers.specs.Answers.{reasonOf, Misses};
+ghost use Rattle.blockers.specs.Answers.{reasonOf, Skips};
 
 // The place of a blocker and its level; an initial state; or nothing, where the case is not blocked.
 pub enum Reason {
@@ -37,11 +37,21 @@ impl Reason {
 }
 
 // Whether the blocker at a place covers the case.
-fn covers_at(masks: &[u64], levels: &[u32], place: usize, least: Level, case: u64) -> bool
+pub fn covers_at(masks: &[u64], levels: &[u32], place: usize, least: Level, case: u64) -> bool
     requires { ⌜ (place < length (now masks)) × (place < length (now levels)) ⌝ }
     ensures { λ r. ⌜ r ≡ coversCase (least .0) case (blockerAt (unstampedRoom (now (masks .entry)) (now (levels .entry))) place) ⌝ }
 {
     covers(masks[place], Level(levels[place]), least, case)
+}
+
+// How many blockers two tables have: the shorter says.
+pub fn count_in(masks: &[u64], levels: &[u32]) -> usize
+    ensures { λ r. ⌜ r ≡ min (length (now (masks .entry))) (length (now (levels .entry))) ⌝ }
+{
+    if masks.len() < levels.len() {
+        return masks.len();
+    }
+    levels.len()
 }
 
 // Whether one of the four blockers from `at` on covers the case.
@@ -56,23 +66,14 @@ fn four_cover(masks: &[u64], levels: &[u32], at: usize, level: Level, case: u64)
     one_of_four(first, second, third, fourth)
 }
 
-// How many blockers two tables have: the shorter says.
-fn count_in(masks: &[u64], levels: &[u32]) -> usize
-    ensures { λ r. ⌜ r ≡ min (length (now (masks .entry))) (length (now (levels .entry))) ⌝ }
-{
-    if masks.len() < levels.len() {
-        return masks.len();
-    }
-    levels.len()
-}
-
-// How many first blockers are passed over, since none of them covers the case. Four are tested before a branch asks, so that the compiler tests them at once.
-// It ends at the first four of which one covers the case, or where fewer than eight are left.
-pub fn leading_misses(masks: &[u64], levels: &[u32], level: Level, case: u64) -> usize
-    ensures { λ r. ⌜ Misses (now (masks .entry)) (now (levels .entry)) (level .0) case r ⌝ }
+// The first place from `from` on before which no blocker covers the case, as far as fours of blockers tell: it ends at the first four of which one covers the
+// case, or where fewer than eight are left. Four are tested before a branch asks, so that the compiler tests them at once.
+pub fn skip(masks: &[u64], levels: &[u32], from: usize, level: Level, case: u64) -> usize
+    requires { ⌜ from ≤ min (length (now masks)) (length (now levels)) ⌝ }
+    ensures { λ r. ⌜ Skips (now (masks .entry)) (now (levels .entry)) (level .0) case from r ⌝ }
 {
     let count = count_in(masks, levels);
-    let mut i: usize = 0;
+    let mut i = from;
     while 8 <= count - i {
         if four_cover(masks, levels, i, level, case) {
             return i;
@@ -83,6 +84,18 @@ pub fn leading_misses(masks: &[u64], levels: &[u32], level: Level, case: u64) ->
         i += 8;
     }
     i
+}
+
+// The next place behind this one to be looked at: the next of its four, or where `skip` leads to.
+pub fn after(masks: &[u64], levels: &[u32], place: usize, level: Level, case: u64) -> usize
+    requires { ⌜ place < min (length (now masks)) (length (now levels)) ⌝ }
+    ensures { λ r. ⌜ Skips (now (masks .entry)) (now (levels .entry)) (level .0) case (place + 1) r ⌝ }
+{
+    let next = place + 1;
+    if next % 4 != 0 {
+        return next;
+    }
+    skip(masks, levels, next, level, case)
 }
 
 // The blocker at the place if it covers the case, or nothing.
@@ -101,7 +114,7 @@ fn first_covering(masks: &[u64], levels: &[u32], level: Level, case: u64) -> Rea
     ensures { λ r. ⌜ reasonOf r ≡ firstCovering (level .0) case 0 (blockersIn (now (masks .entry)) (now (levels .entry))) ⌝ }
 {
     let count = count_in(masks, levels);
-    let mut i = leading_misses(masks, levels, level, case);
+    let mut i = skip(masks, levels, 0, level, case);
     while i < count {
         let here = reason_at(masks, levels, i, level, case);
         if here.is_there() {

@@ -12,7 +12,8 @@ use Rattle.machine.specs.Lent.{BlockerRoom, columnBack, placed}
 use Rattle.machine.specs.Runs.{numberOf, casesIn, symbolsIn, tablesAfter}
 use Rattle.machine.specs.Records.{configurationOf, pendingOf, recordOf, after}
 use Rattle.blockers.specs.Room.{tableOf}
-use Rattle.closing.specs.Close.{lowestNone, keptBy, isEmpty, risenBy, emptyLevel, closedBy, Closes}
+use Rattle.rising.specs.Risen.{risenBy}
+use Rattle.closing.specs.Close.{lowestNone, keptBy, isEmpty, emptyLevel, closedBy, Closes}
 use Rattle.closing.specs.declared.Closed.{Closed}
 use Rattle.checker.specs.declared.record.Run.{Run}
 use Rattle.checker.specs.Stage.{stage, madeBy, countedOf, ClosesLevel}

@@ -2,16 +2,15 @@
 -- Assumes nothing.
 use Prim.Native.Nat.{ℕ, _+_, _-_, _≤_, _<_}
 use mathlib.Core.Path.{_≡_, refl, sym, ap, _∙_}
-use mathlib.Core.Bool.{Bool, true, false, not}
+use mathlib.Core.Bool.{Bool, true, false}
 use mathlib.Core.List.{List, [], _∷_}
 use native.Mathlib.Nat.{sub-zero}
 use native.Mathlib.Omega.{arith}
-use borrow.Author.Tests.{not-true, not-false}
 use lib.Dec.{eqb}
 use lib.ListN.{length}
 use Rattle.lists.specs.Tests.{neg}
-use Rattle.lists.specs.Lists.{firstFrom, eachFrom}
-use Rattle.lists.proofs.Lists.{first-from-here, first-from-later, first-from-nowhere, each-from-fails, each-from-holds, each-from-ends}
+use Rattle.lists.specs.Lists.{firstFrom}
+use Rattle.lists.proofs.Lists.{first-from-here, first-from-later, first-from-nowhere}
 use Rattle.masks.specs.Sets.{subset, lowestAbsent}
 use Rattle.automata.specs.Image.{symbolsOf, initialOf, rowsOf}
 use Rattle.automata.specs.Automaton.{backward}
@@ -22,15 +21,15 @@ use Rattle.machine.specs.Machine.{settled, qualifies}
 use Rattle.machine.specs.Lent.{blockerAt, unstampedRoom, blockersIn}
 use Rattle.machine.specs.Why.{firstCovering, absentReason, why, isReason}
 use Rattle.machine.specs.Runs.{systemOf}
-use Rattle.blockers.specs.Answers.{reasonOf, Misses}
+use Rattle.blockers.specs.Answers.{reasonOf, Skips}
 use Rattle.blockers.specs.declared.reasons.Reason.{Reason}
 use Rattle.blockers.specs.declared.reasons.Reason.the-variants.{Nothing as NoReason}
-use Rattle.blockers.proofs.Walks.{Walked, walk-starts, walk-finds, walk-goes, walk-ends}
+use Rattle.blockers.proofs.Walks.{Walked, walk-begins, walk-finds, walk-goes, walk-ends}
 use Rattle.blockers.proofs.WhyBlocked.{why-bottom, why-above}
 use Rattle.choices.specs.Found.{foundOf}
 use Rattle.choices.specs.declared.Found.{Found}
 use Rattle.choices.specs.declared.Found.the-variants.{At, Nothing}
-use Rattle.choices.proofs.Blocking.{settled-inside, settled-told}
+use Rattle.passing.proofs.Blocking.{settled-inside, settled-told}
 
 -- whether a symbol can extend X, and the first that can
 abbrev extending : List ℕ → List ℕ → List ℕ → ℕ → ℕ → ℕ → Bool
@@ -56,9 +55,9 @@ pub record BlockersTried (masks levels : List ℕ) (below P symbol s i : ℕ) : 
   pub same : s ≡ symbol
   pub walked : Walked masks levels (length masks) below P i
 
-pub tried-starts : {masks levels : List ℕ} {below P s i : ℕ} → length masks ≡ length levels → Misses masks levels below P i
+pub tried-starts : {masks levels : List ℕ} {below P s i : ℕ} → length masks ≡ length levels → Skips masks levels below P 0 i
     → BlockersTried masks levels below P s s i
-tried-starts paired misses = record { same = refl; walked = walk-starts (omega arith) misses }
+tried-starts paired skips = record { same = refl; walked = walk-begins (omega arith) skips }
 
 pub tried-goes : {masks levels : List ℕ} {below P symbol s i : ℕ} → BlockersTried masks levels below P symbol s i
     → (here : Reason) (told : Bool) → i < length masks
@@ -127,34 +126,3 @@ module _ {image masks levels : List ℕ} {below X symbols s : ℕ} (tried : Symb
           pub find-open : length masks ≤ i → At (record { 0 = s }) P ≡ firstFound image masks levels below X
           unfolding reasonOf isReason
           find-open h = finds (by-blockers NoReason false (walk-ends (walk .walked) h) refl)
-
--- the test of the backward set of Y by each symbol, before symbol s: it held so far, and the symbols from s on are left
-pub record EachTried (image : List ℕ) (test : ℕ → Bool) (Y symbols s : ℕ) : Type 0 where
-  pub count : symbols ≡ symbolsOf image
-  pub left : eachFrom (λ t. test (backward (rowsOf image t) Y)) (symbols - s) s ≡ eachFrom (λ t. test (backward (rowsOf image t) Y)) (symbolsOf image) 0
-
-pub each-starts : {image : List ℕ} {head : Head} {test : ℕ → Bool} {Y : ℕ} → ReadAs image head → EachTried image test Y (head .symbols) 0
-each-starts {image} {head} {test} {Y} read = record {
-  count = head-symbols read;
-  left = ap (λ (count : ℕ). eachFrom (λ t. test (backward (rowsOf image t) Y)) count 0) (sub-zero (head .symbols) ∙ head-symbols read);
-}
-
-module _ {image : List ℕ} {test : ℕ → Bool} {Y symbols s : ℕ} (tried : EachTried image test Y symbols s) where
-  pub each-known : s < symbols → s < symbolsOf image
-  each-known l = rw (tried .count) at l
-
-  module _ (P : ℕ) (b : Bool) (l : s < symbols) (back : P ≡ backward (rowsOf image s) Y) (e : b ≡ test P) where
-    at : test (backward (rowsOf image s) Y) ≡ b
-    at = rw (← back) (sym e)
-
-    pub each-goes : not b ≡ false → EachTried image test Y symbols (s + 1)
-    each-goes n = record {
-      count = tried .count;
-      left = sym (each-from-holds (λ t. test (backward (rowsOf image t) Y)) symbols s l (at ∙ not-false b n)) ∙ tried .left;
-    }
-
-    pub each-fails : not b ≡ true → eachFrom (λ t. test (backward (rowsOf image t) Y)) (symbolsOf image) 0 ≡ false
-    each-fails n = sym (tried .left) ∙ each-from-fails (λ t. test (backward (rowsOf image t) Y)) symbols s l (at ∙ not-true b n)
-
-  pub each-ends : symbols ≤ s → eachFrom (λ t. test (backward (rowsOf image t) Y)) (symbolsOf image) 0 ≡ true
-  each-ends l = sym (tried .left) ∙ each-from-ends (λ t. test (backward (rowsOf image t) Y)) symbols s l

@@ -1,20 +1,17 @@
-// The machine's choices: the symbol that extends a pending case, the set that blocks it, and whether a blocker rises. Masks and levels are the part of
-// the blocker room that is in use.
+// The machine's choices: the symbol that extends a pending case, and the set that blocks it. Masks and levels are the part of the blocker room that is in
+// use.
 use automata::backward::backward;
 use automata::image::Head;
 use automata::image::Symbol;
 use blockers::Level;
 use blockers::reasons;
-use masks::State;
 ghost use mathlib.Core.Path.{_≡_};
-ghost use Prim.Native.Nat.{_<_};
 ghost use lib.ListN.{length};
 ghost use Rattle.lists.specs.Lists.{firstFrom};
 ghost use Rattle.automata.specs.Image.{symbolsOf, rowsOf};
 ghost use Rattle.automata.specs.Answers.{ReadAs};
-ghost use Rattle.machine.specs.Machine.{settled as isSettled, qualifies, passes as passesTest, withState, byStates};
-ghost use Rattle.machine.specs.Machine.{chosenFrom, hintAt, rises as risesTest};
-ghost use Rattle.machine.specs.Lent.{blockerAt, unstampedRoom, blockersIn};
+ghost use Rattle.machine.specs.Machine.{qualifies, chosenFrom, hintAt};
+ghost use Rattle.machine.specs.Lent.{blockersIn};
 ghost use Rattle.machine.specs.Runs.{systemOf};
 ghost use Rattle.machine.specs.Hitting.{growthOf};
 ghost use Rattle.choices.specs.Found.{foundOf, choiceOf};
@@ -57,7 +54,7 @@ pub fn first_symbol(
             }
             return Found::At(symbol, p);
         }
-        let mut i = reasons::leading_misses(masks, levels, below, p);
+        let mut i = reasons::skip(masks, levels, 0, below, p);
         while i < masks.len() {
             if reasons::reason_at(masks, levels, i, below, p).is_there() {
                 continue 'symbols;
@@ -67,87 +64,6 @@ pub fn first_symbol(
         return Found::At(symbol, p);
     }
     Found::Nothing
-}
-
-// Whether p, a backward set of y, is inside y or blocked one level below.
-fn settled(initial: u64, masks: &[u64], levels: &[u32], below: Level, y: u64, p: u64) -> bool
-    ensures { λ r. ⌜ r ≡ isSettled initial (blockersIn (now (masks .entry)) (now (levels .entry))) (below .0) y p ⌝ }
-{
-    if masks::subset(p, y) {
-        return true;
-    }
-    reasons::why(initial, masks, levels, below, p).is_there()
-}
-
-// Whether y passes: it may take the place of x as what blocks x one level above `below`.
-fn passes(
-    image: &[u8],
-    head: Head,
-    masks: &[u64],
-    levels: &[u32],
-    below: Level,
-    x: u64,
-    y: u64,
-) -> bool
-    requires { ⌜ ReadAs (now image) head ⌝ }
-    ensures { λ r. ⌜ r ≡ passesTest (systemOf (now (image .entry))) (blockersIn (now (masks .entry)) (now (levels .entry))) (below .0) x y ⌝ }
-{
-    if !masks::subset(x, y) {
-        return false;
-    }
-    if masks::subset(head.initial, y) {
-        return false;
-    }
-    if !masks::within(head.states, y) {
-        return false;
-    }
-    let mut symbol = Symbol(0);
-    while symbol.0 < head.symbols {
-        let p = backward(image, symbol, y).set;
-        if !settled(head.initial, masks, levels, below, y, p) {
-            return false;
-        }
-        symbol = Symbol(symbol.0 + 1);
-    }
-    true
-}
-
-// The set y, with the state q if that is not in x and the set with it still passes.
-fn with_state(
-    image: &[u8],
-    head: Head,
-    masks: &[u64],
-    levels: &[u32],
-    below: Level,
-    x: u64,
-    q: State,
-    y: u64,
-) -> u64
-    requires { ⌜ ReadAs (now image) head × (q .0 < 64) ⌝ }
-    ensures { λ r. ⌜ r ≡ withState (systemOf (now (image .entry))) (blockersIn (now (masks .entry)) (now (levels .entry))) (below .0) x (q .0) y ⌝ }
-{
-    if masks::member(q, x) {
-        return y;
-    }
-    let more = masks::insert(q, y);
-    if passes(image, head, masks, levels, below, x, more) {
-        return more;
-    }
-    y
-}
-
-// The set that x grows to by its states, as what blocks it one level above `below`.
-fn by_states(image: &[u8], head: Head, masks: &[u64], levels: &[u32], below: Level, x: u64) -> u64
-    requires { ⌜ ReadAs (now image) head ⌝ }
-    ensures { λ r. ⌜ r ≡ byStates (systemOf (now (image .entry))) (blockersIn (now (masks .entry)) (now (levels .entry))) (below .0) x ⌝ }
-{
-    let mut y = x;
-    let mut q = State(0);
-    while q.0 < head.states {
-        y = with_state(image, head, masks, levels, below, x, q, y);
-        q = State(q.0 + 1);
-    }
-    y
 }
 
 // The set that x grows to by the way: 0 by its states, else through a hitting set.
@@ -165,7 +81,7 @@ fn grow(
         (blockersIn (now (masks .entry)) (now (levels .entry))) (below .0) x ⌝ }
 {
     if way == 0 {
-        return by_states(image, head, masks, levels, below, x);
+        return growing::by_states(image, head, masks, levels, below, x);
     }
     hitting::grow(image, head, masks, levels, below, x)
 }
@@ -192,7 +108,7 @@ pub fn choose_set(
         return Choice { mask, hinted: 0 };
     }
     let hint = hints[number];
-    if passes(image, head, masks, levels, below, x, hint) {
+    if passing::passes(image, head, masks, levels, below, x, hint) {
         return Choice {
             mask: hint,
             hinted: 1,
@@ -200,32 +116,4 @@ pub fn choose_set(
     }
     let mask = grow(image, head, masks, levels, below, x, way);
     Choice { mask, hinted: 0 }
-}
-
-// Whether the blocker at the place is of exactly this level and each of its backward sets is blocked there.
-pub fn rises(
-    image: &[u8],
-    head: Head,
-    masks: &[u64],
-    levels: &[u32],
-    level: Level,
-    place: usize,
-) -> bool
-    requires { ⌜ ReadAs (now image) head × (length (now masks) ≡ length (now levels)) × (place < length (now masks)) ⌝ }
-    ensures { λ r. ⌜ r ≡ risesTest (systemOf (now (image .entry))) (blockersIn (now (masks .entry)) (now (levels .entry))) (level .0)
-        (blockerAt (unstampedRoom (now (masks .entry)) (now (levels .entry))) place) ⌝ }
-{
-    if !Level(levels[place]).equals(level) {
-        return false;
-    }
-    let mask = masks[place];
-    let mut symbol = Symbol(0);
-    while symbol.0 < head.symbols {
-        let p = backward(image, symbol, mask).set;
-        if !reasons::why(head.initial, masks, levels, level, p).is_there() {
-            return false;
-        }
-        symbol = Symbol(symbol.0 + 1);
-    }
-    true
 }

@@ -1,4 +1,7 @@
 -- Laws of the close, by subject.
-pub mod Composing
-pub mod Along
-pub mod Levels
+pub mod Covered
+pub mod Sinking
+pub mod Walking
+pub mod Indexed
+pub mod Vacancies
+pub mod Vacant

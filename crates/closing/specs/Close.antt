@@ -2,25 +2,18 @@
 use Prim.Native.Nat.{ℕ, _≤_}
 use mathlib.Core.Path.{_≡_}
 use mathlib.Core.Bool.{Bool, true, false}
-use mathlib.Core.List.{List, []}
+use mathlib.Core.List.{List}
 use mathlib.Core.Option.{Option, none, some}
 use lib.ListN.{length}
 use Rattle.lists.specs.Lists.{firstFrom}
 use Rattle.machine.specs.System.{System}
-use Rattle.machine.specs.Machine.{Blocker, riseAlong, riseLevels, noneAt, frame}
+use Rattle.machine.specs.Machine.{Blocker, noneAt, frame}
 use Rattle.machine.specs.Lent.{BlockerRoom}
 use Rattle.blockers.specs.Room.{tableOf, Placed}
+use Rattle.rising.specs.Risen.{risenBy}
 use Rattle.closing.specs.declared.Lowest.{Lowest}
 use Rattle.closing.specs.declared.Lowest.the-variants.{At, Nothing}
 use Rattle.closing.specs.declared.Closed.{Closed}
-
--- the blockers after the rises at level j
-abbrev pub risenAt : System → ℕ → List Blocker → List Blocker
-risenAt S j table = riseAlong S (length table) j [] table
-
--- the blockers after the rises at each level from 1 to `top`
-abbrev pub risenBy : System → ℕ → List Blocker → List Blocker
-risenBy S top table = riseLevels S top 1 table
 
 -- the lowest level from 1 to `top` that holds no blocker
 unfoldable pub lowestNone : List Blocker → ℕ → Option ℕ
@@ -40,12 +33,6 @@ keptBy table (some j) = frame j table
 unfoldable pub isEmpty : Option ℕ → Bool
 isEmpty none = false
 isEmpty (some j) = true
-
--- What comes of a room in which `table` is to stand for the first `held` entries: as many blockers as `held′`, and no more than were held.
-pub record Becomes (held : ℕ) (table : List Blocker) (room : BlockerRoom) (held′ : ℕ) (room′ : BlockerRoom) : Type 0 where
-  pub count : held′ ≡ length table
-  pub tables : Placed held table room room′
-  pub few : held′ ≤ held
 
 -- the lowest level from 1 to `top` that holds no blocker after the rises
 abbrev pub emptyLevel : System → ℕ → List Blocker → Option ℕ

@@ -1,16 +1,19 @@
 // The close: at each level the blockers that can rise do so, and then the lowest level that holds none is looked for.
+mod by_index; // by_index.rt: the rises by an index
+mod vacancy; // vacancy.rt: the lowest level that holds no blocker
+
 use automata::image::Head;
 use blockers::Level;
-ghost use mathlib.Core.Path.{_≡_};
-ghost use Prim.Native.Nat.{_<_};
-ghost use lib.Dec.{eqb};
-ghost use Rattle.lists.specs.Tests.{neg};
-ghost use Rattle.lists.specs.Lists.{any, firstFrom};
+use blockers::sizes;
+ghost use Prim.Native.Nat.{_≤_, _<_};
+ghost use lib.ListN.{length};
 ghost use Rattle.automata.specs.Answers.{ReadAs};
 ghost use Rattle.machine.specs.Lent.{roomOf};
 ghost use Rattle.blockers.specs.Room.{HoldsRoom, tableOf};
 ghost use Rattle.machine.specs.Runs.{systemOf};
-ghost use Rattle.closing.specs.Close.{risenAt, risenBy, lowestOf, Becomes, Closes};
+ghost use Rattle.rising.specs.Risen.{risenBy, Becomes};
+ghost use Rattle.closing.specs.Close.{Closes};
+ghost use Rattle.closing.specs.ByIndex.{NoneLeft};
 
 // The lowest level that holds no blocker, or that there is none.
 enum Lowest {
@@ -24,37 +27,19 @@ pub struct Closed {
     pub empty: bool,
 }
 
-// In table order, each blocker of this level that can rise does so; answers how many blockers are then held. A rise may close up the table before the
-// risen blocker, so the walk goes on behind where that one then stands.
-fn rise_level(
-    image: &[u8],
-    head: Head,
-    masks: &mut [u64],
-    levels: &mut [u32],
-    entered: &mut [u64],
-    held: usize,
-    level: Level,
-) -> usize
-    requires { ⌜ ReadAs (now image) head × HoldsRoom held (roomOf (now masks) (now levels) (now entered)) × (level .0 < 4294967295) ⌝ }
-    ensures { λ r. ⌜ Becomes held (risenAt (systemOf (now (image .entry))) (level .0) (tableOf held (roomOf (now (masks .entry)) (now (levels .entry)) (now (entered .entry)))))
-        (roomOf (now (masks .entry)) (now (levels .entry)) (now (entered .entry))) r (roomOf (now (masks .exit)) (now (levels .exit)) (now (entered .exit))) ⌝ }
+// Whether the rises go by an index: where many blockers are held and none is of level 0, as in every table that a run made.
+fn is_indexed(levels: &[u32], held: usize) -> bool
+    requires { ⌜ held ≤ length (now levels) ⌝ }
+    ensures { λ r. ⌜ NoneLeft held (now (levels .entry)) r ⌝ }
 {
-    let mut count = held;
-    let mut place: usize = 0;
-    while place < count {
-        if choices::rises(image, head, &masks[..count], &levels[..count], level, place) {
-            let kept = blockers::rise(masks, levels, entered, count, place);
-            count = kept.held;
-            place = kept.place + 1;
-            continue;
-        }
-        place += 1;
+    if held < sizes::INDEXED_BLOCKERS {
+        return false;
     }
-    count
+    blockers::none_at(&levels[..held], Level(0))
 }
 
-// The rises at each level from 1 to `top`, one level after another; answers how many blockers are then held.
-fn rise_levels(
+// The rises at each level from 1 to `top`; answers how many blockers are then held. By an index, those that leave sink to level 0 and close up in the end.
+fn rise_all(
     image: &[u8],
     head: Head,
     masks: &mut [u64],
@@ -67,28 +52,11 @@ fn rise_levels(
     ensures { λ r. ⌜ Becomes held (risenBy (systemOf (now (image .entry))) (top .0) (tableOf held (roomOf (now (masks .entry)) (now (levels .entry)) (now (entered .entry)))))
         (roomOf (now (masks .entry)) (now (levels .entry)) (now (entered .entry))) r (roomOf (now (masks .exit)) (now (levels .exit)) (now (entered .exit))) ⌝ }
 {
-    let mut count = held;
-    let mut level = Level(1);
-    while level.is_at_most(top) {
-        count = rise_level(image, head, masks, levels, entered, count, level);
-        level = level.above();
+    if !is_indexed(levels, held) {
+        return rising::rise_levels(image, head, masks, levels, entered, held, top);
     }
-    count
-}
-
-// The lowest level from 1 to `top` that none of these levels is.
-fn lowest_none(levels: &[u32], top: Level) -> Lowest
-    requires { ⌜ top .0 < 4294967295 ⌝ }
-    ensures { λ r. ⌜ r ≡ lowestOf (firstFrom (λ level. neg (any (λ other. eqb other level) (now (levels .entry)))) (top .0) 1) ⌝ }
-{
-    let mut level = Level(1);
-    while level.is_at_most(top) {
-        if blockers::none_at(levels, level) {
-            return Lowest::At(level);
-        }
-        level = level.above();
-    }
-    Lowest::Nothing
+    by_index::rise_in_room(image, head, masks, levels, held, top);
+    blockers::frame(masks, levels, entered, held, Level(0))
 }
 
 // The close of the level `top`: the rises at each level, and where a level then holds no blocker, only the frame above the lowest such level stays.
@@ -105,8 +73,8 @@ pub fn close(
     ensures { λ r. ⌜ Closes (systemOf (now (image .entry))) (top .0) held
         (roomOf (now (masks .entry)) (now (levels .entry)) (now (entered .entry))) r (roomOf (now (masks .exit)) (now (levels .exit)) (now (entered .exit))) ⌝ }
 {
-    let count = rise_levels(image, head, masks, levels, entered, held, top);
-    let Lowest::At(level) = lowest_none(&levels[..count], top) else {
+    let count = rise_all(image, head, masks, levels, entered, held, top);
+    let Lowest::At(level) = vacancy::lowest_none(&levels[..count], top) else {
         return Closed {
             held: count,
             empty: false,

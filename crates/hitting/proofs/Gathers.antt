@@ -26,9 +26,9 @@ use Rattle.machine.specs.Lent.{column}
 use Rattle.machine.specs.Runs.{systemOf}
 use Rattle.machine.specs.Hitting.{cover, casesOutside, casesFrom, forbidden, withSet, withCases, toMeet}
 use Rattle.machine.proofs.Counted.{with-cases-joined, with-cases-longer}
-use Rattle.hitting.specs.Chained.{slotOf}
+use Rattle.hitting.specs.Slots.{slotOf}
 use Rattle.hitting.specs.Sets.{Gathered, Filled, HasRoom, withRows, withSymbol}
-use Rattle.hitting.proofs.Linking.{one-more, Looking, told-below, looking-found, looking-goes}
+use Rattle.hitting.proofs.Linking.{one-slotted, Looking, told-below, looking-found, looking-goes}
 
 -- the search for a set along its chain, in the table
 module _ {table slots links : List ℕ} {count one number : ℕ} (filled : Filled (take count table) count table slots links)
@@ -89,14 +89,14 @@ module _ (table slots links : List ℕ) (count one : ℕ) (room : HasRoom count 
         → Filled (withSet (take count table) one) (count + 1) (set table count one) slots-after links-after
     set-enters slots-after links-after put linked =
         let long = length-take-le count table (room .used .gathered .fits) in
-        let more = one-more (room .used .chained) one (omega (arith, long, place-linked)) in
+        let more = one-slotted (room .used .slotted) one (omega (arith, long, place-linked)) in
         subst (λ (sets : List ℕ). Filled sets (count + 1) (set table count one) slots-after links-after) (sym new)
         (record {
           gathered = record {
             stands = ap (λ (k : ℕ). take k (set table count one)) (add-one count) ∙ take-suc-set table count one set-place;
             fits = omega (arith, set-place, length-set table count one);
           };
-          chained = rw (put, linked, add-one count) (rw long at more);
+          slotted = rw (put, linked) (rw long at more);
           links-fit =
               omega (arith, room .used .links-fit, length-set table count one, ap length linked, length-set links count (getD slots (slotOf (length slots) one) 0));
           narrow = omega (arith, room .used .narrow, length-set table count one);

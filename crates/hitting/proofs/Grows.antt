@@ -10,19 +10,16 @@ use Rattle.automata.specs.Image.{rowCountOf, rowsOf}
 use Rattle.automata.specs.Answers.{ReadAs}
 use Rattle.automata.specs.declared.image.Head.{Head}
 use Rattle.automata.proofs.ValidImage.{valid-kept}
-use Rattle.automata.proofs.Reading.{head-states, head-rows}
+use Rattle.automata.proofs.Reading.{head-states}
 use Rattle.machine.specs.Machine.{Blocker}
 use Rattle.machine.specs.Runs.{systemOf}
 use Rattle.machine.specs.Hitting.{toMeet, picked, byHittingSet}
 use Rattle.hitting.specs.Sets.{Gathered, HasRoom}
-use Rattle.hitting.proofs.Linking.{none-chained}
+use Rattle.hitting.proofs.Linking.{none-slotted}
 use Rattle.hitting.proofs.Few.{few-sets}
 
 module _ {image : List ℕ} {head : Head} (read : ReadAs image head) where
-  -- what the test of the head says of the rows, and that there are at most 4,096
-  pub short-rows : head .rows < 512 → rowCountOf image < 512
-  short-rows l = omega (arith, head-rows read)
-
+  -- there are at most 4,096 rows
   pub all-rows : rowCountOf image < 4097
   all-rows = omega (arith, valid-kept image (read .valid) .few-rows)
 
@@ -33,7 +30,7 @@ module _ {image : List ℕ} {head : Head} (read : ReadAs image head) where
         record {
           used = record {
             gathered = record { stands = refl; fits = omega arith };
-            chained = none-chained slots links some none;
+            slotted = none-slotted slots links some none;
             links-fit = linked;
             narrow = narrow;
           };

@@ -10,7 +10,7 @@ use Rattle.automata.specs.Image.{Row}
 use Rattle.machine.specs.System.{System}
 use Rattle.machine.specs.Machine.{Blocker}
 use Rattle.machine.specs.Hitting.{RowSource, cover, casesOutside, withCases, best}
-use Rattle.hitting.specs.Chained.{Chained}
+use Rattle.hitting.specs.Slots.{Slotted}
 
 -- the first `count` places of the table hold the sets
 pub record Gathered (sets : List ℕ) (count : ℕ) (table : List ℕ) : Type 0 where
@@ -20,7 +20,7 @@ pub record Gathered (sets : List ℕ) (count : ℕ) (table : List ℕ) : Type 0 
 -- and slots and links are theirs, with a link for each place of the table; places are told in 16 bits
 pub record Filled (sets : List ℕ) (count : ℕ) (table slots links : List ℕ) : Type 0 where
   pub gathered : Gathered sets count table
-  pub chained : Chained sets slots links
+  pub slotted : Slotted sets slots links
   pub links-fit : length table ≤ length links
   pub narrow : length table < 65536
 

@@ -1,8 +1,7 @@
 // The sets that are to be met: what is left of I, and of the case of each row whose state is outside b, once the states of x are taken away. Each stands once,
 // and none is empty. The table has room for all of them.
-use crate::chains::before;
-use crate::chains::last_of;
-use crate::chains::link;
+use crate::slots::last_of;
+use crate::slots::link;
 use automata::backward::backward;
 use automata::image::Head;
 use automata::image::Symbol;
@@ -35,7 +34,7 @@ fn is_there(sets: &[u64], slots: &[u16], links: &[u16], count: usize, set: u64) 
         if sets[number - 1] == set {
             return true;
         }
-        number = before(links, number - 1);
+        number = chains::told(links, number - 1);
     }
     false
 }

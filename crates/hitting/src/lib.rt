@@ -1,10 +1,12 @@
 // The second way to grow a blocker: through a hitting set. The sets that are to be met stand in a table on the stack, one at most for each row and one for I.
 use automata::image::Head;
 use blockers::Level;
+use blockers::sizes::SHORT_ROWS;
+use blockers::sizes::SHORT_TABLE;
 
-mod chains; // chains.rt: the sets by slots and links
 mod gathering; // gathering.rt: the sets that are to be met, each once
 mod picking; // picking.rt: the states that meet them all
+mod slots; // slots.rt: the slots by which sets are chained
 
 ghost use mathlib.Core.Path.{_≡_};
 ghost use Prim.Native.Nat.{_≤_, _<_};
@@ -37,15 +39,15 @@ fn grow_in(
     masks::without(masks::full(head.states), picked)
 }
 
-// The same for images of fewer than 512 rows: short tables are soon cleared.
+// The same for images of few rows, with short tables.
 fn grow_short(image: &[u8], head: Head, masks: &[u64], levels: &[u32], below: Level, x: u64) -> u64
     requires { ⌜ ReadAs (now image) head × (rowCountOf (now image) < 512) ⌝ }
     ensures { λ r. ⌜ r ≡ byHittingSet (systemOf (now (image .entry))) (rowsOf (now (image .entry)))
         (blockersIn (now (masks .entry)) (now (levels .entry))) (below .0) x ⌝ }
 {
-    let mut sets = [0u64; 512];
-    let mut slots = [0u16; 512];
-    let mut links = [0u16; 512];
+    let mut sets = [0u64; SHORT_TABLE];
+    let mut slots = [0u16; SHORT_TABLE];
+    let mut links = [0u16; SHORT_TABLE];
     grow_in(
         image,
         head,
@@ -87,7 +89,7 @@ pub fn grow(image: &[u8], head: Head, masks: &[u64], levels: &[u32], below: Leve
     ensures { λ r. ⌜ r ≡ byHittingSet (systemOf (now (image .entry))) (rowsOf (now (image .entry)))
         (blockersIn (now (masks .entry)) (now (levels .entry))) (below .0) x ⌝ }
 {
-    if head.rows < 512 {
+    if head.rows < SHORT_ROWS {
         return grow_short(image, head, masks, levels, below, x);
     }
     grow_long(image, head, masks, levels, below, x)

@@ -44,6 +44,11 @@ unfolding _and_
 and-both true b s t = t
 and-both false b s t = s
 
+pub and-fails : (a b : Bool) → b ≡ false → (a and b) ≡ false
+unfolding _and_
+and-fails true b e = e
+and-fails false b e = refl
+
 pub or-cases : (a b : Bool) → T (a or b) → T a ⊎ T b
 unfolding _or_
 or-cases true b t = inl tt

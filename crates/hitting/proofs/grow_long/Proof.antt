@@ -2,31 +2,16 @@ use Rattle.hitting.proofs.Grows.{all-rows}
 use borrow.Author.Needs.{needs}
 use Rattle.hitting.proofs.grow_long.Statement.{statement}
 use Rattle.hitting.proofs.grow_long.Tie as tie
-use Rattle.hitting.proofs.grow_long.Reads as reads
-use Rattle.hitting.proofs.grow_long.Lts as lts
-use Rattle.hitting.proofs.grow_in.Reads as grow-in-reads
-
-slice-aggregate-grow-in : tie.Need-slice-aggregate-grow-in
-slice-aggregate-grow-in c = search needs
-
-slice-aggregate-grow-in-2 : tie.Need-slice-aggregate-grow-in-2
-slice-aggregate-grow-in-2 c = search needs
-
-slice-aggregate-grow-in-3 : tie.Need-slice-aggregate-grow-in-3
-slice-aggregate-grow-in-3 c = search needs
 
 grow-in-requires : tie.Need-grow-in-requires
 grow-in-requires c κs = search (all-rows, needs)
-
-returns : tie.Need-returns
-returns c = search needs
 
 pub grow-long-spec : {M : Type 1} → statement M
 grow-long-spec =
     tie.close
     (tie.spec
-    slice-aggregate-grow-in
-    slice-aggregate-grow-in-2
-    slice-aggregate-grow-in-3
+    (λ c. search needs)
+    (λ c. search needs)
+    (λ c. search needs)
     grow-in-requires
-    returns)
+    (λ c. search needs))

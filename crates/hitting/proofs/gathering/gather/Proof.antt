@@ -4,20 +4,12 @@ use Rattle.hitting.proofs.Gathers.{SymbolsGathered, first-room, symbols
 use borrow.Author.Needs.{needs}
 use Rattle.hitting.proofs.gathering.gather.Statement.{statement}
 use Rattle.hitting.proofs.gathering.gather.Tie as tie
-use Rattle.hitting.proofs.gathering.gather.Reads as reads
-use Rattle.hitting.proofs.gathering.gather.Lts as lts
-use Rattle.hitting.proofs.gathering.with_set.Reads as with-set-reads
-use Rattle.hitting.proofs.gathering.with_symbol.Reads as with-symbol-reads
-use Rattle.masks.proofs.without.Reads as without-reads
 
 abbrev Inv-loop : tie.InvT-loop
 Inv-loop image head masks levels below x sets₀ slots₀ links₀ count₀ symbol₀ sets slots links count symbol = SymbolsGathered image (blockersIn masks levels) (below .0) x (head .symbols) sets₀ slots₀ links₀ (symbol .0) count sets slots links
 
 abbrev μ-loop : tie.MeasureT-loop
 μ-loop image head masks levels below x sets₀ slots₀ links₀ count₀ symbol₀ sets slots links count symbol = head .symbols - symbol .0
-
-without-requires : tie.Need-without-requires Inv-loop μ-loop
-without-requires c κs = search needs
 
 with-set-requires : tie.Need-with-set-requires Inv-loop μ-loop
 with-set-requires c κs = search (first-room, needs)
@@ -30,12 +22,6 @@ with-symbol-requires c κs =
     let so-far = c .before .before .before .before .before .before .loop .inv in
     let l = c .before .before .before .if1 .taken in
     search (symbol-known so-far l, symbols-room so-far l, needs)
-
-add-t26 : tie.Need-add-t26 Inv-loop μ-loop
-add-t26 c = search needs
-
-loop-less : tie.Need-loop-less Inv-loop μ-loop
-loop-less c = search needs
 
 loop-again : tie.Need-loop-again Inv-loop μ-loop
 loop-again c = search (symbols-go, needs)
@@ -58,12 +44,12 @@ gather-spec =
     (tie.spec
     Inv-loop
     μ-loop
-    without-requires
+    (λ c κs. search needs)
     with-set-requires
     loop-holds
     with-symbol-requires
-    add-t26
-    loop-less
+    (λ c. search needs)
+    (λ c. search needs)
     loop-again
     same-length
     same-length-2

@@ -3,9 +3,6 @@ use Rattle.hitting.proofs.Gathers.{RowsGathered, rows-start, row-stands
 use borrow.Author.Needs.{needs}
 use Rattle.hitting.proofs.gathering.with_rows.Statement.{statement}
 use Rattle.hitting.proofs.gathering.with_rows.Tie as tie
-use Rattle.hitting.proofs.gathering.with_rows.Reads as reads
-use Rattle.hitting.proofs.gathering.with_rows.Lts as lts
-use Rattle.hitting.proofs.gathering.with_row.Reads as with-row-reads
 
 abbrev Inv-loop : tie.InvT-loop
 Inv-loop image start end b x sets₀ slots₀ links₀ count total₀ at₀ sets slots links total at = RowsGathered image start end b x sets₀ slots₀ links₀ count total at sets slots links
@@ -19,23 +16,8 @@ loop-holds c = search (rows-start, needs)
 with-row-requires : tie.Need-with-row-requires Inv-loop μ-loop
 with-row-requires c κs = search (row-stands, next-room, needs)
 
-add-at : tie.Need-add-at Inv-loop μ-loop
-add-at c = search needs
-
-loop-less : tie.Need-loop-less Inv-loop μ-loop
-loop-less c = search needs
-
 loop-again : tie.Need-loop-again Inv-loop μ-loop
 loop-again c = search (rows-go, needs)
-
-same-length : tie.Need-same-length Inv-loop μ-loop
-same-length c = search needs
-
-same-length-2 : tie.Need-same-length-2 Inv-loop μ-loop
-same-length-2 c = search needs
-
-same-length-3 : tie.Need-same-length-3 Inv-loop μ-loop
-same-length-3 c = search needs
 
 returns : tie.Need-returns Inv-loop μ-loop
 returns c = search (rows-end, needs)
@@ -48,10 +30,10 @@ with-rows-spec =
     μ-loop
     loop-holds
     with-row-requires
-    add-at
-    loop-less
+    (λ c. search needs)
+    (λ c. search needs)
     loop-again
-    same-length
-    same-length-2
-    same-length-3
+    (λ c. search needs)
+    (λ c. search needs)
+    (λ c. search needs)
     returns)

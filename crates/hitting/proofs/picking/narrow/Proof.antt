@@ -2,8 +2,6 @@ use Rattle.hitting.proofs.Planes.{narrows-none, narrows-some}
 use borrow.Author.Needs.{needs}
 use Rattle.hitting.proofs.picking.narrow.Statement.{statement}
 use Rattle.hitting.proofs.picking.narrow.Tie as tie
-use Rattle.hitting.proofs.picking.narrow.Reads as reads
-use Rattle.hitting.proofs.picking.narrow.Lts as lts
 
 returns : tie.Need-returns
 returns c = search (narrows-none, needs)

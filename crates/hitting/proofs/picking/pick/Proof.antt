@@ -3,11 +3,6 @@ use Rattle.hitting.proofs.Picks.{Picking, picks-start, picks-done, pick
 use borrow.Author.Needs.{needs}
 use Rattle.hitting.proofs.picking.pick.Statement.{statement}
 use Rattle.hitting.proofs.picking.pick.Tie as tie
-use Rattle.hitting.proofs.picking.pick.Reads as reads
-use Rattle.hitting.proofs.picking.pick.Lts as lts
-use Rattle.hitting.proofs.picking.best.Reads as best-reads
-use Rattle.hitting.proofs.picking.keep_unmet.Reads as keep-unmet-reads
-use Rattle.masks.proofs.insert.Reads as insert-reads
 
 abbrev Inv-loop : tie.InvT-loop
 Inv-loop n sets₀ count left₀ picked₀ turn₀ sets left picked turn = Picking n sets₀ count left picked turn sets
@@ -18,32 +13,11 @@ abbrev μ-loop : tie.MeasureT-loop
 loop-holds : tie.Need-loop-holds Inv-loop μ-loop
 loop-holds c = search (picks-start, needs)
 
-same-length : tie.Need-same-length Inv-loop μ-loop
-same-length c = search needs
-
 returns : tie.Need-returns Inv-loop μ-loop
 returns c = search (picks-done, needs)
 
-best-requires : tie.Need-best-requires Inv-loop μ-loop
-best-requires c κs = search needs
-
-keep-unmet-requires : tie.Need-keep-unmet-requires Inv-loop μ-loop
-keep-unmet-requires c κs = search needs
-
-insert-requires : tie.Need-insert-requires Inv-loop μ-loop
-insert-requires c κs = search needs
-
-add-turn : tie.Need-add-turn Inv-loop μ-loop
-add-turn c = search needs
-
-loop-less : tie.Need-loop-less Inv-loop μ-loop
-loop-less c = search needs
-
 loop-again : tie.Need-loop-again Inv-loop μ-loop
 loop-again c = search (picks-go, needs)
-
-same-length-2 : tie.Need-same-length-2 Inv-loop μ-loop
-same-length-2 c = search needs
 
 returns-2 : tie.Need-returns-2 Inv-loop μ-loop
 returns-2 c = search (picks-end, needs)
@@ -55,13 +29,13 @@ pick-spec =
     Inv-loop
     μ-loop
     loop-holds
-    same-length
+    (λ c. search needs)
     returns
-    best-requires
-    keep-unmet-requires
-    insert-requires
-    add-turn
-    loop-less
+    (λ c κs. search needs)
+    (λ c κs. search needs)
+    (λ c κs. search needs)
+    (λ c. search needs)
+    (λ c. search needs)
     loop-again
-    same-length-2
+    (λ c. search needs)
     returns-2)

@@ -1,0 +1,2 @@
+-- Laws of the lists of covering blockers.
+pub mod Covering

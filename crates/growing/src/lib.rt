@@ -1,0 +1,43 @@
+// Growth by states: the set that a case grows to when its states are tried in order. Where rows or blockers are many it works in tables of its own. Masks and
+// levels are the part of the blocker room that is in use. Assumes nothing.
+mod trying; // trying.rt: the growth by states over tables
+
+use automata::image::Head;
+use blockers::Level;
+use blockers::sizes::FEW_BLOCKERS;
+use blockers::sizes::FEW_ROWS;
+use passing::by_each;
+ghost use mathlib.Core.Path.{_≡_};
+ghost use Rattle.automata.specs.Answers.{ReadAs};
+ghost use Rattle.machine.specs.Machine.{byStates};
+ghost use Rattle.machine.specs.Lent.{blockersIn};
+ghost use Rattle.machine.specs.Runs.{systemOf};
+
+// Whether there are so few rows and blockers that tables do not pay.
+fn is_small(rows: u16, blockers: usize) -> bool {
+    if FEW_ROWS <= rows {
+        return false;
+    }
+    blockers < FEW_BLOCKERS
+}
+
+// The set that x grows to by its states, as what blocks it one level above `below`.
+pub fn by_states(
+    image: &[u8],
+    head: Head,
+    masks: &[u64],
+    levels: &[u32],
+    below: Level,
+    x: u64,
+) -> u64
+    requires { ⌜ ReadAs (now image) head ⌝ }
+    ensures { λ r. ⌜ r ≡ byStates (systemOf (now (image .entry))) (blockersIn (now (masks .entry)) (now (levels .entry))) (below .0) x ⌝ }
+{
+    if is_small(head.rows, masks.len()) {
+        return by_each(image, head, masks, levels, below, x);
+    }
+    if !masks::within(head.states, x) {
+        return by_each(image, head, masks, levels, below, x);
+    }
+    trying::by_tables(image, head, masks, levels, below, x)
+}

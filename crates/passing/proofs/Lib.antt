@@ -1,0 +1,4 @@
+-- Laws of the whole test, by subject.
+pub mod Blocking
+pub mod Passing
+pub mod States

@@ -1,0 +1,95 @@
+// Whether a set passes, and the growth by states that tries each by the whole test. Masks and levels are the part of the blocker room that is in use. Assumes
+// nothing.
+use automata::backward::backward;
+use automata::image::Head;
+use automata::image::Symbol;
+use blockers::Level;
+use blockers::reasons;
+use masks::State;
+ghost use mathlib.Core.Path.{_≡_};
+ghost use Prim.Native.Nat.{_<_};
+ghost use Rattle.automata.specs.Answers.{ReadAs};
+ghost use Rattle.machine.specs.Machine.{settled as isSettled, passes as passesTest, withState, byStates};
+ghost use Rattle.machine.specs.Lent.{blockersIn};
+ghost use Rattle.machine.specs.Runs.{systemOf};
+
+// Whether p, a backward set of y, is inside y or blocked one level below.
+fn settled(initial: u64, masks: &[u64], levels: &[u32], below: Level, y: u64, p: u64) -> bool
+    ensures { λ r. ⌜ r ≡ isSettled initial (blockersIn (now (masks .entry)) (now (levels .entry))) (below .0) y p ⌝ }
+{
+    if masks::subset(p, y) {
+        return true;
+    }
+    reasons::why(initial, masks, levels, below, p).is_there()
+}
+
+// Whether y passes: it may take the place of x as what blocks x one level above `below`.
+pub fn passes(
+    image: &[u8],
+    head: Head,
+    masks: &[u64],
+    levels: &[u32],
+    below: Level,
+    x: u64,
+    y: u64,
+) -> bool
+    requires { ⌜ ReadAs (now image) head ⌝ }
+    ensures { λ r. ⌜ r ≡ passesTest (systemOf (now (image .entry))) (blockersIn (now (masks .entry)) (now (levels .entry))) (below .0) x y ⌝ }
+{
+    if !masks::subset(x, y) {
+        return false;
+    }
+    if masks::subset(head.initial, y) {
+        return false;
+    }
+    if !masks::within(head.states, y) {
+        return false;
+    }
+    let mut symbol = Symbol(0);
+    while symbol.0 < head.symbols {
+        let p = backward(image, symbol, y).set;
+        if !settled(head.initial, masks, levels, below, y, p) {
+            return false;
+        }
+        symbol = Symbol(symbol.0 + 1);
+    }
+    true
+}
+
+// The set y, with the state q if that is not in x and the set with it still passes.
+fn with_state(
+    image: &[u8],
+    head: Head,
+    masks: &[u64],
+    levels: &[u32],
+    below: Level,
+    x: u64,
+    q: State,
+    y: u64,
+) -> u64
+    requires { ⌜ ReadAs (now image) head × (q .0 < 64) ⌝ }
+    ensures { λ r. ⌜ r ≡ withState (systemOf (now (image .entry))) (blockersIn (now (masks .entry)) (now (levels .entry))) (below .0) x (q .0) y ⌝ }
+{
+    if masks::member(q, x) {
+        return y;
+    }
+    let more = masks::insert(q, y);
+    if passes(image, head, masks, levels, below, x, more) {
+        return more;
+    }
+    y
+}
+
+// The set that x grows to by its states, as what blocks it one level above `below`: each is tried by the whole test.
+pub fn by_each(image: &[u8], head: Head, masks: &[u64], levels: &[u32], below: Level, x: u64) -> u64
+    requires { ⌜ ReadAs (now image) head ⌝ }
+    ensures { λ r. ⌜ r ≡ byStates (systemOf (now (image .entry))) (blockersIn (now (masks .entry)) (now (levels .entry))) (below .0) x ⌝ }
+{
+    let mut y = x;
+    let mut q = State(0);
+    while q.0 < head.states {
+        y = with_state(image, head, masks, levels, below, x, q, y);
+        q = State(q.0 + 1);
+    }
+    y
+}
