@@ -13,7 +13,7 @@
      masks, levels, entered, cases, symbols, counts, record, found; afa_why
      writes found alone) shares no byte with anything else that it is lent in
      the same call.
-   afa_print_run takes some 520 KB of stack, afa_run and afa_step some 50 KB,
+   afa_print_run takes some 520 KB of stack, afa_run and afa_step some 70 KB,
    the others little. */
 #ifndef AFA_H
 #define AFA_H

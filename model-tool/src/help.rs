@@ -30,7 +30,10 @@ macro_rules! run_options {
   --word N        places for the word, and so its greatest length; at most 65536, the default
   --allowance N   steps that the run may make in all; by default as many as it takes
   --hints FILE    sets of states to be tried as blockers, one a line: names, with or without { , }
-  --way 0|1       how blockers are grown: 0 state by state (the default), 1 through a hitting set
+  --way 0|1       how blockers are grown: 0 state by state (the default), 1 through a hitting set.
+                  Verdicts agree. On a model of independent parts 1 can take hundreds of times as long,
+                  or run out of room: a blocker then gets no state that an event leaves as it is if that
+                  event adds nothing to the case to be blocked, so that it may block this case alone
   --edition 1|2   whether a start that is forbidden already is a finding (1, the default) or a slip (2)
   --resume FILE   go on with a run that was saved, in its rooms or larger ones
 "

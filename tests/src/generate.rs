@@ -6,6 +6,9 @@ use crate::image::{all_states, Model, Row};
 use crate::random::Random;
 
 pub mod blockers;
+pub mod blocks;
+pub mod closes;
+pub mod copies;
 pub mod hints;
 pub mod prints;
 pub mod records;
@@ -35,6 +38,14 @@ fn small_case(random: &mut Random, states: usize, count: usize) -> u64 {
 fn case_by_chance(random: &mut Random, states: usize, percent: usize) -> u64 {
     let members = (0..states).filter(|_| random.chance(percent));
     members.fold(0, |case, state| case | 1 << state)
+}
+
+/// Now and then a bit at n or above, if there is any.
+fn stray_bit(random: &mut Random, states: usize) -> u64 {
+    match states < 64 && random.chance(10) {
+        true => 1 << random.within(states..=63),
+        false => 0,
+    }
 }
 
 /// Rows anywhere, few to many.

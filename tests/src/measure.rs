@@ -1,13 +1,15 @@
 //! The time of the library beside that of the machine, the word test and the print written in Rust, and
 //! that of its runs by begin and steps beside its runs in one call: what the benchmarks share.
 //!
-//! Both sides go in one process and in turn, on the same image. Runs are lent rooms of 1,024 places
-//! that are cleared before each; prints are lent a room of just their length, cleared too; clearing and
-//! comparing are not timed. Times are the processor's for this thread, so that what else the machine
-//! does counts little. The machine here has no table of when blockers entered. The numbers, all other
-//! tables and the prints are compared after each turn.
+//! Both sides go in one process and in turn, on the same image. Runs are lent rooms that are cleared
+//! before each; prints are lent a room of just their length, cleared too; clearing and comparing are not
+//! timed. Times are the processor's for this thread, so that what else the machine does counts little.
+//! The machine here has no table of when blockers entered. The numbers, all other tables and the prints
+//! are compared after each turn. A single step is lent a record and tables that are made anew before
+//! each, and both sides have all of them.
 
 use crate::afa;
+use crate::compare::steps::Standing;
 use crate::machine;
 use crate::record::{Record, WORKING};
 use crate::tables::{Answer, Tables, Terms};
@@ -28,12 +30,23 @@ struct Time {
 
 const CLOCK_THREAD_CPUTIME_ID: c_int = 3;
 
-/// Of each room.
-const PLACES: usize = 1024;
-
 /// A round has one turn of either side or more, so that it lasts at least so long.
 const ROUND: Duration = Duration::from_millis(40);
-pub const ROUNDS: usize = 11;
+
+/// How large the rooms are, and how many rounds there are.
+#[derive(Clone, Copy)]
+pub struct Setting {
+    /// Of each room.
+    pub places: usize,
+    /// A single one has one turn of either side and no other before it.
+    pub rounds: usize,
+}
+
+/// Where a run is not so long that it needs more places, or is measured less often.
+pub const USUAL: Setting = Setting {
+    places: 1_024,
+    rounds: 11,
+};
 
 pub enum Asked {
     Run(Terms),
@@ -58,7 +71,10 @@ pub struct Measured {
 impl Measured {
     /// The median of each side: the library and Rust, or steps and one call.
     pub fn times(&self) -> [Duration; 2] {
-        [0, 1].map(|side| self.times[side][ROUNDS / 2])
+        [0, 1].map(|side: usize| {
+            let times = &self.times[side];
+            times[times.len() / 2]
+        })
     }
 
     pub fn library_time(&self) -> Duration {
@@ -70,8 +86,14 @@ impl Measured {
     }
 
     /// The first side's time by that of the second: the median, the least and the most.
+    pub fn ratios(&self) -> [f64; 3] {
+        let rounds = self.ratios.len();
+        [rounds / 2, 0, rounds - 1].map(|place| self.ratios[place])
+    }
+
+    /// The same as text.
     pub fn ratio(&self) -> String {
-        let [median, least, most] = [ROUNDS / 2, 0, ROUNDS - 1].map(|place| self.ratios[place]);
+        let [median, least, most] = self.ratios();
         format!("{median:.2} ({least:.2} to {most:.2})")
     }
 }
@@ -115,32 +137,38 @@ fn ask_rust(image: &[u8], asked: &Asked, lent: &mut Lent) -> Answer {
 }
 
 /// A print's room is as long as the print, which is made once with room enough for any to know that.
-fn lent_for(image: &[u8], asked: &Asked) -> Lent {
+fn lent_for(image: &[u8], asked: &Asked, places: usize) -> Lent {
     let mut room = Vec::new();
     if let Asked::Print(word) = asked {
         room.resize(21 + 24 * word.len(), 0);
         let (_, length) = machine::print::print_run(image, word, &mut room);
         room.truncate(length as usize);
     }
-    let tables = Tables::cleared(PLACES, PLACES);
+    let tables = Tables::cleared(places, places);
     Lent { tables, room }
 }
 
 /// The library and Rust: what was measured, or in what the two sides differ.
-pub fn measure(image: &[u8], asked: &Asked) -> Result<Measured, String> {
+pub fn measure(image: &[u8], asked: &Asked, setting: Setting) -> Result<Measured, String> {
     let library = |lent: &mut Lent| ask_library(black_box(image), black_box(asked), lent);
     let rust = |lent: &mut Lent| ask_rust(black_box(image), black_box(asked), lent);
-    let mut both = [0, 1].map(|_| lent_for(image, asked));
-    in_turn(&mut both, library, rust, "in Rust")
+    let mut both = [0, 1].map(|_| lent_for(image, asked, setting.places));
+    in_turn(&mut both, setting.rounds, library, rust, "in Rust")
 }
 
 /// The library's run by begin and steps, and its run in one call.
-pub fn measure_steps(image: &[u8], terms: Terms) -> Result<Measured, String> {
+pub fn measure_steps(image: &[u8], terms: Terms, setting: Setting) -> Result<Measured, String> {
     let asked = &Asked::Run(terms);
     let by_steps = |lent: &mut Lent| run_by_steps(black_box(image), black_box(asked), lent);
     let in_one_call = |lent: &mut Lent| ask_library(black_box(image), black_box(asked), lent);
-    let mut both = [0, 1].map(|_| lent_for(image, asked));
-    in_turn(&mut both, by_steps, in_one_call, "in one call")
+    let mut both = [0, 1].map(|_| lent_for(image, asked, setting.places));
+    in_turn(
+        &mut both,
+        setting.rounds,
+        by_steps,
+        in_one_call,
+        "in one call",
+    )
 }
 
 fn run_by_steps(image: &[u8], asked: &Asked, lent: &mut Lent) -> Answer {
@@ -159,9 +187,9 @@ fn run_by_steps(image: &[u8], asked: &Asked, lent: &mut Lent) -> Answer {
 /// rounds.
 pub fn time_of_checks(image: &[u8]) -> Duration {
     const REPEATS: u32 = 1_000;
-    let mut tables = Tables::cleared(PLACES, PLACES);
+    let mut tables = Tables::cleared(USUAL.places, USUAL.places);
     let mut record = Record::begun(0).numbers();
-    let mut times = [0; ROUNDS].map(|_| {
+    let mut times = [0; USUAL.rounds].map(|_| {
         let start = processor_time();
         for _ in 0..REPEATS {
             let terms = black_box(Terms::plain(1));
@@ -171,29 +199,67 @@ pub fn time_of_checks(image: &[u8]) -> Duration {
         (processor_time() - start) / REPEATS
     });
     times.sort();
-    times[ROUNDS / 2]
+    times[USUAL.rounds / 2]
+}
+
+/// How long one step takes the library and Rust on a record and tables as they stand: the least of so many
+/// turns, or in what the two sides differ.
+pub fn time_of_step(
+    image: &[u8],
+    before: &Standing,
+    terms: Terms<&[u64]>,
+    turns: usize,
+) -> Result<[Duration; 2], String> {
+    let mut least = [Duration::MAX; 2];
+    for _ in 0..turns {
+        let (mut library, mut rust) = (before.clone(), before.clone());
+        let mut numbers = before.record.numbers();
+        let start = processor_time();
+        afa::step::step(
+            black_box(image),
+            library.tables.lend(),
+            black_box(terms),
+            &mut numbers,
+        );
+        least[0] = least[0].min(processor_time() - start);
+        library.record = Record::of_numbers(numbers);
+        let start = processor_time();
+        machine::step(
+            black_box(image),
+            rust.tables.lend(),
+            black_box(terms),
+            &mut rust.record,
+        );
+        least[1] = least[1].min(processor_time() - start);
+        if library != rust {
+            let (record, in_rust) = (library.record, rust.record);
+            return Err(format!("a step to {record}, but in Rust to {in_rust}"));
+        }
+    }
+    Ok(least)
 }
 
 /// The rounds of two sides, or in what the first differs from the second, which has a name.
 fn in_turn(
     both: &mut [Lent; 2],
+    rounds: usize,
     run_first: impl Fn(&mut Lent) -> Answer,
     run_second: impl Fn(&mut Lent) -> Answer,
     second_side: &str,
 ) -> Result<Measured, String> {
     let [first_lent, second_lent] = both;
 
-    // The first turn of either side also tells how many make a round.
-    let (time, answer) = timed(second_lent, &run_second);
-    timed(first_lent, &run_first);
-    let repeats = ROUND.as_nanos().div_ceil(2 * time.as_nanos().max(1)) as u32;
+    // A turn of either side before the rounds tells how many make one.
+    let mut repeats = 1;
+    if rounds > 1 {
+        let (time, _) = timed(second_lent, &run_second);
+        timed(first_lent, &run_first);
+        repeats = ROUND.as_nanos().div_ceil(2 * time.as_nanos().max(1)) as u32;
+    }
 
-    let mut measured = Measured {
-        answer,
-        times: [Vec::new(), Vec::new()],
-        ratios: Vec::new(),
-    };
-    for _ in 0..ROUNDS {
+    let (mut side_times, mut ratios) = ([Vec::new(), Vec::new()], Vec::new());
+    let mut answer = None;
+    for _ in 0..rounds {
         let mut times = [Duration::ZERO; 2];
         for repeat in 0..repeats {
             let (first, second);
@@ -219,19 +285,22 @@ fn in_turn(
                     first.1
                 ));
             }
+            answer = Some(first.1);
             times[0] += first.0;
             times[1] += second.0;
         }
-        for (side, time) in measured.times.iter_mut().zip(times) {
+        for (side, time) in side_times.iter_mut().zip(times) {
             side.push(time / repeats);
         }
-        measured
-            .ratios
-            .push(times[0].as_secs_f64() / times[1].as_secs_f64());
+        ratios.push(times[0].as_secs_f64() / times[1].as_secs_f64());
     }
-    measured.times.iter_mut().for_each(|times| times.sort());
-    measured.ratios.sort_by(f64::total_cmp);
-    Ok(measured)
+    side_times.iter_mut().for_each(|times| times.sort());
+    ratios.sort_by(f64::total_cmp);
+    Ok(Measured {
+        answer: answer.expect("a round"),
+        times: side_times,
+        ratios,
+    })
 }
 
 /// The tables that both sides have.

@@ -2,75 +2,13 @@
 //! places in use as they stand; the rest stay."
 
 use afa_tests::compare::steps::{Comparison, Standing};
-use afa_tests::generate::records::{invented, terms_for, ODD_OPEN};
+use afa_tests::generate::records::{invented, made_up, terms_for, ODD_OPEN};
 use afa_tests::generate::runs::{affordable_steps, run_model, run_model_of};
 use afa_tests::image::{model_c, model_d, Model};
+use afa_tests::one_step::assert_one_step;
 use afa_tests::random::Random;
 use afa_tests::record::Record;
 use afa_tests::tables::{Tables, Terms, EDITIONS, WAYS};
-
-/// Each place that is in use neither before nor after the step is as it was.
-fn assert_rest_stays(before: &Standing, after: &Standing, word_length: u64) {
-    let held = before.record.held.max(after.record.held) as usize;
-    let pending = before.record.pending.max(after.record.pending);
-    let (cases, symbols) = (pending as usize, pending.max(word_length) as usize);
-    assert_eq!(before.tables.masks[held..], after.tables.masks[held..]);
-    assert_eq!(before.tables.levels[held..], after.tables.levels[held..]);
-    assert_eq!(before.tables.entered[held..], after.tables.entered[held..]);
-    assert_eq!(before.tables.cases[cases..], after.tables.cases[cases..]);
-    assert_eq!(
-        before.tables.symbols[symbols..],
-        after.tables.symbols[symbols..]
-    );
-}
-
-/// What was in use before and is no longer is 0, but for a word.
-fn assert_freed_is_cleared(before: &Standing, after: &Standing, word_length: u64) {
-    let blockers = after.record.held as usize..before.record.held.max(after.record.held) as usize;
-    let pending = before.record.pending.max(after.record.pending) as usize;
-    let cases = after.record.pending as usize..pending;
-    let symbols = after.record.pending.max(word_length) as usize..pending;
-    let tables = &after.tables;
-    assert!(tables.masks[blockers.clone()].iter().all(|&mask| mask == 0));
-    assert!(tables.levels[blockers.clone()]
-        .iter()
-        .all(|&level| level == 0));
-    assert!(tables.entered[blockers].iter().all(|&entered| entered == 0));
-    assert!(tables.cases[cases].iter().all(|&case| case == 0));
-    assert!(tables.symbols[symbols].iter().all(|&symbol| symbol == 0));
-}
-
-/// What holds of every step of a working record, said without the machine.
-fn assert_one_step(before: &Standing, after: &Standing, allowance: u64) {
-    let (was, is) = (&before.record, &after.record);
-    let shown = format!("{was}\nto {is}");
-    let word_length = if is.answer == 1 { was.pending } else { 0 };
-    assert_rest_stays(before, after, word_length);
-    assert_freed_is_cleared(before, after, word_length);
-    assert!(is.open <= 1, "{shown}");
-    assert_eq!(is.answer == 2, was.steps >= allowance, "{shown}");
-    let stopped = matches!(is.answer, 2..=4);
-    assert_eq!(is.steps, was.steps + u64::from(!stopped), "{shown}");
-    assert!(is.is_working() || is.pending == 0, "{shown}");
-    if stopped {
-        let same = Record {
-            answer: is.answer,
-            open: u64::from(was.open != 0),
-            pending: 0,
-            ..*was
-        };
-        assert_eq!(*is, same, "{shown}");
-    }
-    let made = is.blocks - was.blocks;
-    let accepted = is.accepted - was.accepted;
-    assert!(accepted <= made && made <= 1, "{shown}");
-    if made == 1 {
-        let last = is.held as usize - 1;
-        assert_eq!(after.tables.entered[last], is.steps, "{shown}");
-        let level = was.level - was.pending + 1;
-        assert_eq!(u64::from(after.tables.levels[last]), level, "{shown}");
-    }
-}
 
 /// Records and tables of every kind, and up to 50 steps of each, on terms that change. What a step leaves is
 /// never broken.
@@ -122,6 +60,41 @@ fn random_records() {
     assert!(seen.pending_again > 1_000 && seen.by_hint > 2_000 && seen.room_by_leaving > 2_000);
     assert!(seen.rose > 20_000 && seen.left_before > 2_000 && seen.left_behind > 2_000);
     assert!(seen.grown.iter().all(|&count| count > 10_000));
+}
+
+/// The same with some hundreds of blockers, of which some are of level 0 or none is.
+#[test]
+fn random_records_of_many_blockers() {
+    const RECORDS: usize = 2_000;
+    let mut random = Random::seeded(141);
+    let mut comparison = Comparison::default();
+    let mut ended = 0;
+    for number in 0..RECORDS {
+        let (states, symbols) = (random.within(6..=40), random.within(1..=3));
+        let model = run_model_of(&mut random, states, symbols);
+        let image = model.image();
+        let (blocker_room, word_room) = (random.within(17..=700), random.within(1..=40));
+        let mut standing = made_up(&mut random, &model, blocker_room, word_room);
+        if number % 2 == 0 {
+            let levels = standing.tables.levels.iter_mut();
+            levels.for_each(|level| *level = (*level).max(1));
+        }
+        for _ in 0..20 {
+            let terms = terms_for(&mut random, &model, &standing);
+            let before = standing.clone();
+            let answer = comparison.step(&image, &mut standing, terms.lend(), &model);
+            assert_one_step(&before, &standing, terms.allowance);
+            if answer != 6 {
+                ended += 1;
+                break;
+            }
+        }
+    }
+    let seen = &comparison.seen;
+    println!("{RECORDS} invented records of many blockers, {ended} ended: {seen}");
+    assert!(seen.closed > 1_000 && seen.extended > 500 && seen.blocked > 2_000);
+    assert!(seen.by_hint > 100 && seen.room_by_leaving > 100 && comparison.times(0) > 500);
+    assert!(seen.rose > 100_000 && seen.left_before > 10_000 && seen.left_behind > 10_000);
 }
 
 /// Places in use, and what stands in the others: `STALE` in each.

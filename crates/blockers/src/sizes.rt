@@ -1,10 +1,15 @@
 // From which sizes on a step works in tables of its own, and how large these are. They matter to no answer: docs/BENCHMARKS.md has the measurement that chose
 // them.
 
-// A case grows by the whole test for each state where there are fewer rows and fewer blockers than these.
-pub const FEW_ROWS: u16 = 128;
+// A growth by states works over tables where there are so many blockers for each symbol, or so many rows;
+pub const SOME_BLOCKERS: usize = 8;
 
-pub const FEW_BLOCKERS: usize = 32;
+pub const MANY_ROWS: usize = 32;
+
+// of fewer states than this, where there are so many blockers for each symbol. Else each state is tried by the whole test.
+pub const FEW_STATES: u8 = 20;
+
+pub const MANY_BLOCKERS: usize = 32;
 
 // A growth takes short tables, which are soon cleared, for images of fewer rows than this.
 pub const SHORT_ROWS: u16 = 512;

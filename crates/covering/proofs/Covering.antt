@@ -185,6 +185,15 @@ module _ {masks levels : List ℕ} {below P : ℕ} {before near : List ℕ} {fro
                 ∙ rest;
           }
 
+  pub listing-full : {near′ : List ℕ} {end′ : ℕ} → ListedOne below P (blockerAt (unstampedRoom masks levels) i) near near′ end end′ → length near′ < end′
+      → Listed (blockersIn masks levels) below P before near′ from end′
+  listing-full one l =
+      record {
+        low = omega (arith, so-far .low, one .low);
+        kept = λ j h. one .kept j (omega (arith, so-far .low)) ∙ so-far .kept j h;
+        holds = λ few. absurd (omega arith);
+      }
+
   pub listing-ends : count ≤ i → Listed (blockersIn masks levels) below P before near from end
   unfolding any
   listing-ends l =

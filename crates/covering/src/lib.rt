@@ -54,6 +54,9 @@ fn list_covers(
     let mut i = skip(masks, levels, 0, below, p);
     while i < count {
         end = list_one(masks, levels, below, p, near, end, i);
+        if near.len() < end {
+            return end;
+        }
         i = after(masks, levels, i, below, p);
     }
     end

@@ -4,8 +4,11 @@ mod trying; // trying.rt: the growth by states over tables
 
 use automata::image::Head;
 use blockers::Level;
-use blockers::sizes::FEW_BLOCKERS;
-use blockers::sizes::FEW_ROWS;
+use blockers::sizes::FEW_STATES;
+use blockers::sizes::MANY_BLOCKERS;
+use blockers::sizes::MANY_ROWS;
+use blockers::sizes::SOME_BLOCKERS;
+use firing::sets::place_of;
 use passing::by_each;
 ghost use mathlib.Core.Path.{_≡_};
 ghost use Rattle.automata.specs.Answers.{ReadAs};
@@ -13,12 +16,20 @@ ghost use Rattle.machine.specs.Machine.{byStates};
 ghost use Rattle.machine.specs.Lent.{blockersIn};
 ghost use Rattle.machine.specs.Runs.{systemOf};
 
-// Whether there are so few rows and blockers that tables do not pay.
-fn is_small(rows: u16, blockers: usize) -> bool {
-    if FEW_ROWS <= rows {
+fn wide(rows: u16) -> usize {
+    rows as usize
+}
+
+// Whether there are so few blockers and rows that tables do not pay: they are filled for each symbol, and used for each state.
+fn is_small(head: Head, blockers: usize) -> bool {
+    let symbols = place_of(head.symbols);
+    if head.states < FEW_STATES {
+        return blockers / MANY_BLOCKERS < symbols;
+    }
+    if symbols <= blockers / SOME_BLOCKERS {
         return false;
     }
-    blockers < FEW_BLOCKERS
+    wide(head.rows) / MANY_ROWS < symbols
 }
 
 // The set that x grows to by its states, as what blocks it one level above `below`.
@@ -33,7 +44,7 @@ pub fn by_states(
     requires { ⌜ ReadAs (now image) head ⌝ }
     ensures { λ r. ⌜ r ≡ byStates (systemOf (now (image .entry))) (blockersIn (now (masks .entry)) (now (levels .entry))) (below .0) x ⌝ }
 {
-    if is_small(head.rows, masks.len()) {
+    if is_small(head, masks.len()) {
         return by_each(image, head, masks, levels, below, x);
     }
     if !masks::within(head.states, x) {

@@ -106,6 +106,11 @@ fn options_and_statuses_stand_in_columns() {
                 .map(|gap| line.len() - line[gap..].trim_start().len());
             assert!([Some(18), None].contains(&meaning), "{command}: {line}");
         }
+        // What an option means may go on in the lines below it.
+        for line in said.lines().filter(|line| line.starts_with("    ")) {
+            let meaning = line.len() - line.trim_start().len();
+            assert_eq!(meaning, 18, "{command}: {line}");
+        }
     }
 }
 

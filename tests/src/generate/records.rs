@@ -125,9 +125,13 @@ fn symbol(random: &mut Random, model: &Model) -> u8 {
     }
 }
 
-/// A working record and tables made up from nothing. What is not in use has anything in it.
-fn made_up(random: &mut Random, model: &Model) -> Standing {
-    let (blocker_room, word_room) = (places(random), places(random));
+/// A working record and tables of so many places made up from nothing. What is not in use has anything in it.
+pub fn made_up(
+    random: &mut Random,
+    model: &Model,
+    blocker_room: usize,
+    word_room: usize,
+) -> Standing {
     let mut tables = Tables::filled(random, blocker_room, word_room);
     let held = up_to(random, blocker_room);
     let level = up_to(random, word_room);
@@ -216,7 +220,10 @@ fn change(random: &mut Random, model: &Model, record: &mut Record, tables: &mut 
 pub fn invented(random: &mut Random, model: &Model) -> Standing {
     let standing = match random.below(3) {
         0 => changed(random, model),
-        _ => made_up(random, model),
+        _ => {
+            let (blocker_room, word_room) = (places(random), places(random));
+            made_up(random, model, blocker_room, word_room)
+        }
     };
     let [blocker_room, _, _, word_room, _] = standing.tables.lengths();
     assert!(!standing.record.is_broken(blocker_room, word_room));

@@ -114,9 +114,14 @@ pub fn one_in_all(state: u32, symbols: usize) -> Model {
 }
 
 /// As many states and rows as there can be, and a run of many steps, each of whose growths has
-/// thousands of forbidden sets: so many symbols move the states about, and the rows of one more have
-/// large cases, which seldom fit.
+/// thousands of forbidden sets.
 pub fn largest(random: &mut Random, moving: usize) -> Model {
+    mostly_large_cases(random, moving, 4_096)
+}
+
+/// As many states as there can be and so many rows: so many symbols move the states about, and the rows of
+/// one more have large cases, which seldom fit.
+pub fn mostly_large_cases(random: &mut Random, moving: usize, row_count: usize) -> Model {
     let initial = small_case(random, 64, 5);
     let mut model = Model {
         states: 64,
@@ -131,7 +136,7 @@ pub fn largest(random: &mut Random, moving: usize) -> Model {
         let case = random.pick(&[any, any & fewer]);
         Row { state, case }
     };
-    let others = (model.row_count()..4_096).map(row).collect();
+    let others = (model.row_count()..row_count).map(row).collect();
     model.rows.push(others);
     model
 }

@@ -1,6 +1,6 @@
 use borrow.Author.Needs.{needs}
 use Prim.Native.Nat.{_-_}
-use Rattle.covering.proofs.Covering.{Listing, listing-starts, listing-goes, listing-ends}
+use Rattle.covering.proofs.Covering.{Listing, listing-starts, listing-goes, listing-full, listing-ends}
 use Rattle.covering.proofs.list_covers.Statement.{statement}
 use Rattle.covering.proofs.list_covers.Tie as tie
 
@@ -13,11 +13,14 @@ abbrev μ-loop : tie.MeasureT-loop
 loop-holds : tie.Need-loop-holds Inv-loop μ-loop
 loop-holds c = search (listing-starts, needs)
 
+returns : tie.Need-returns Inv-loop μ-loop
+returns c = search (listing-full, needs)
+
 loop-again : tie.Need-loop-again Inv-loop μ-loop
 loop-again c = search (listing-goes, needs)
 
-returns : tie.Need-returns Inv-loop μ-loop
-returns c = search (listing-ends, needs)
+returns-2 : tie.Need-returns-2 Inv-loop μ-loop
+returns-2 c = search (listing-ends, needs)
 
 pub list-covers-spec : {M : Type 1} → statement M
 list-covers-spec =
@@ -29,8 +32,10 @@ list-covers-spec =
     (λ c κs. search needs)
     loop-holds
     (λ c κs. search needs)
+    (λ c. search needs)
+    returns
     (λ c κs. search needs)
     (λ c. search needs)
     loop-again
     (λ c. search needs)
-    returns)
+    returns-2)
