@@ -11,7 +11,7 @@ use afa_tests::generate::runs::long_runs;
 use afa_tests::generate::ways::largest;
 use afa_tests::image::{all_states, rings, Model, Row};
 use afa_tests::measure::{
-    grouped, measure, measure_steps, time_of_checks, Asked, Measured, Setting, USUAL,
+    ended, grouped, measure, measure_steps, time_of_checks, Asked, Measured, Setting, USUAL,
 };
 use afa_tests::random::Random;
 use afa_tests::tables::Terms;
@@ -44,13 +44,7 @@ struct Subject {
 }
 
 fn main() -> ExitCode {
-    match print() {
-        Ok(()) => ExitCode::SUCCESS,
-        Err(difference) => {
-            eprintln!("{difference}");
-            ExitCode::FAILURE
-        }
-    }
+    ended(print())
 }
 
 fn print() -> Result<(), String> {

@@ -10,7 +10,7 @@ use afa_tests::generate::ways::mostly_large_cases;
 use afa_tests::generate::{blocks, closes};
 use afa_tests::image::{rings, Model};
 use afa_tests::machine;
-use afa_tests::measure::{grouped, measure, time_of_step, Asked, Setting};
+use afa_tests::measure::{ended, grouped, measure, time_of_step, Asked, Setting};
 use afa_tests::random::Random;
 use afa_tests::tables::{Tables, Terms, WAYS};
 use std::process::ExitCode;
@@ -37,16 +37,11 @@ const MODELS: usize = 5;
 const TURNS: usize = 7;
 
 fn main() -> ExitCode {
-    match print_words()
-        .and_then(|()| print_rows())
-        .and_then(|()| print_steps())
-    {
-        Ok(()) => ExitCode::SUCCESS,
-        Err(difference) => {
-            eprintln!("{difference}");
-            ExitCode::FAILURE
-        }
-    }
+    ended(
+        print_words()
+            .and_then(|()| print_rows())
+            .and_then(|()| print_steps()),
+    )
 }
 
 /// A size and a time.

@@ -15,7 +15,7 @@ use afa_tests::generate::runs::long_runs;
 use afa_tests::generate::ways::{counters, largest, primes, worst};
 use afa_tests::image::{rings, Model};
 use afa_tests::machine;
-use afa_tests::measure::{measure, Asked, Measured, Setting, USUAL};
+use afa_tests::measure::{ended, measure, Asked, Measured, Setting, USUAL};
 use afa_tests::random::Random;
 use afa_tests::tables::{Tables, Terms, WAYS};
 use std::process::ExitCode;
@@ -37,13 +37,7 @@ struct Subject {
 }
 
 fn main() -> ExitCode {
-    match print() {
-        Ok(()) => ExitCode::SUCCESS,
-        Err(difference) => {
-            eprintln!("{difference}");
-            ExitCode::FAILURE
-        }
-    }
+    ended(print())
 }
 
 /// The table and what stands below it, or in what the two sides differ.

@@ -15,6 +15,7 @@ use crate::record::{Record, WORKING};
 use crate::tables::{Answer, Tables, Terms};
 use std::ffi::c_int;
 use std::hint::black_box;
+use std::process::ExitCode;
 use std::time::Duration;
 
 extern "C" {
@@ -335,4 +336,15 @@ fn processor_time() -> Duration {
     let done = unsafe { clock_gettime(CLOCK_THREAD_CPUTIME_ID, &mut time) };
     assert_eq!(done, 0, "clock_gettime");
     Duration::from_secs(time.seconds) + Duration::from_nanos(time.nanoseconds)
+}
+
+/// How a benchmark ends: with an error where the two sides differ.
+pub fn ended(printed: Result<(), String>) -> ExitCode {
+    match printed {
+        Ok(()) => ExitCode::SUCCESS,
+        Err(difference) => {
+            eprintln!("{difference}");
+            ExitCode::FAILURE
+        }
+    }
 }

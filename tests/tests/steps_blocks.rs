@@ -62,6 +62,13 @@ impl Steps {
         after
     }
 
+    /// The steps of a standing like this, of which X is blocked.
+    fn blocks(&mut self, wanted: &Wanted) {
+        let model = wanted.model(&mut self.random);
+        let before = wanted.standing(&mut self.random, &model, Aim::Block);
+        self.steps(&model, &before, &format!("{wanted:?}"));
+    }
+
     /// A step by each way without hints, and by one with hints: X itself, what was grown, and each with one
     /// state more. Answers what the first leaves.
     fn steps(&mut self, model: &Model, before: &Standing, shown: &str) -> Standing {
@@ -129,9 +136,7 @@ fn rows_from_few_to_most() {
                     below,
                     lacking: random.pick(&[2, 6, 20]),
                 };
-                let model = wanted.model(random);
-                let before = wanted.standing(random, &model, Aim::Block);
-                steps.steps(&model, &before, &format!("{wanted:?}"));
+                steps.blocks(&wanted);
             }
         }
     }
@@ -172,9 +177,7 @@ fn large_tables() {
                     below: random.pick(&[0, 1, 1, 2, 15]),
                     lacking,
                 };
-                let model = wanted.model(random);
-                let before = wanted.standing(random, &model, Aim::Block);
-                steps.steps(&model, &before, &format!("{wanted:?}"));
+                steps.blocks(&wanted);
             }
         }
     }
