@@ -123,9 +123,12 @@ module _ {masks levels : List ℕ} {level case count from i : ℕ} (skipping : S
           so-far = subst (λ (k : ℕ). Skips masks levels level case from k) both (skip-four skip-next (omega (arith, skipping .all)) (sym eb ∙ fb));
         }
 
-pub skip-none : {masks levels : List ℕ} {level case place : ℕ} → place < min (length masks) (length levels)
+pub skip-none : {masks levels : List ℕ} {level case place : ℕ} → place ≤ min (length masks) (length levels) → Skips masks levels level case place place
+skip-none l = record { begins = omega arith; few = l; missed = λ i a b. absurd (omega arith) }
+
+pub skip-none-behind : {masks levels : List ℕ} {level case place : ℕ} → place < min (length masks) (length levels)
     → Skips masks levels level case (place + 1) (place + 1)
-skip-none l = record { begins = omega arith; few = omega arith; missed = λ i a b. absurd (omega arith) }
+skip-none-behind l = skip-none (omega arith)
 
 -- The walk over the blockers for the first that covers the case, before place i: what is left of it decides.
 pub record Walked (masks levels : List ℕ) (count level case i : ℕ) : Type 0 where

@@ -86,6 +86,16 @@ pub fn skip(masks: &[u64], levels: &[u32], from: usize, level: Level, case: u64)
     i
 }
 
+// The same from the first place on. Of fewer than eight blockers none is skipped, without a call.
+pub fn skip_first(masks: &[u64], levels: &[u32], level: Level, case: u64) -> usize
+    ensures { λ r. ⌜ Skips (now (masks .entry)) (now (levels .entry)) (level .0) case 0 r ⌝ }
+{
+    if count_in(masks, levels) < 8 {
+        return 0;
+    }
+    skip(masks, levels, 0, level, case)
+}
+
 // The next place behind this one to be looked at: the next of its four, or where `skip` leads to.
 pub fn after(masks: &[u64], levels: &[u32], place: usize, level: Level, case: u64) -> usize
     requires { ⌜ place < min (length (now masks)) (length (now levels)) ⌝ }
@@ -114,7 +124,7 @@ fn first_covering(masks: &[u64], levels: &[u32], level: Level, case: u64) -> Rea
     ensures { λ r. ⌜ reasonOf r ≡ firstCovering (level .0) case 0 (blockersIn (now (masks .entry)) (now (levels .entry))) ⌝ }
 {
     let count = count_in(masks, levels);
-    let mut i = skip(masks, levels, 0, level, case);
+    let mut i = skip_first(masks, levels, level, case);
     while i < count {
         let here = reason_at(masks, levels, i, level, case);
         if here.is_there() {

@@ -54,7 +54,7 @@ pub fn first_symbol(
             }
             return Found::At(symbol, p);
         }
-        let mut i = reasons::skip(masks, levels, 0, below, p);
+        let mut i = reasons::skip_first(masks, levels, below, p);
         while i < masks.len() {
             if reasons::reason_at(masks, levels, i, below, p).is_there() {
                 continue 'symbols;

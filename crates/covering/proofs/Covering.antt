@@ -86,40 +86,50 @@ module _ (masks levels : List ℕ) (below P : ℕ) (near : List ℕ) (end place 
   covering : covers below P (blockerAt (unstampedRoom masks levels) place) ≡ told
   covering = one-told below P place (blockerAt (unstampedRoom masks levels) place) r told is tells
 
-  pub one-misses : not told ≡ true → end ≤ 65535 → ListedOne below P (blockerAt (unstampedRoom masks levels) place) near near end end
-  one-misses n l =
-      record {
-        low = omega arith;
-        narrow = l;
-        kept = λ j h. refl;
-        holds = λ few from h case larger.
-            sym (ap (λ (b : Bool). oneHolds near from (end - from) case or b) (still-misses below P case larger _ (covering ∙ not-true told n)) ∙ or-none _);
-      }
+  module _ (l : end < length near) (narrow : length near < 65535) where
+    written : List ℕ
+    written = set near end (getD masks place 0)
 
-  pub one-full : not told ≡ false → length near ≤ end → length near < 65535 → end ≤ 65535
-      → ListedOne below P (blockerAt (unstampedRoom masks levels) place) near near end 65535
-  one-full n l narrow small =
-      record { low = small; narrow = omega arith; kept = λ j h. refl; holds = λ few. absurd (omega arith) }
+    before : (j : ℕ) → j < end → getD written j 0 ≡ getD near j 0
+    unfolding written
+    before j h = getD-set-other near end j (getD masks place 0) 0 (λ e. omega arith)
 
-  pub one-joins : not told ≡ false → end < length near → length near < 65535
-      → ListedOne below P (blockerAt (unstampedRoom masks levels) place) near (set near end (getD masks place 0)) end (end + 1)
-  unfolding oneHolds
-  one-joins n l narrow =
-      record {
-        low = omega arith;
-        narrow = omega arith;
-        kept = λ j h. getD-set-other near end j (getD masks place 0) 0 (λ e. omega arith);
-        holds = λ few from h case larger.
-            let e : end + 1 - from ≡ suc (end - from) = omega arith in
-            let here : from + (end - from) ≡ end = omega arith in
-            rw (
-              e,
-              here,
-              getD-set-same near end (getD masks place 0) 0 l,
-              one-same near (set near end (getD masks place 0)) from (end - from) case (λ j low high. getD-set-other near end j (getD masks place 0) 0 (λ q. omega arith)),
-              by-mask below P case larger (blockerAt (unstampedRoom masks levels) place) (covering ∙ not-false told n),
-            ) refl;
-      }
+    pub one-misses : not told ≡ true → ListedOne below P (blockerAt (unstampedRoom masks levels) place) near (set near end (getD masks place 0)) end end
+    unfolding written
+    one-misses n =
+        record {
+          low = omega arith;
+          narrow = omega arith;
+          kept = before;
+          holds = λ few from h case larger.
+              one-same near written from (end - from) case (λ j low high. before j (omega arith))
+              ∙ sym (ap (λ (b : Bool). oneHolds near from (end - from) case or b) (still-misses below P case larger _ (covering ∙ not-true told n)) ∙ or-none _);
+        }
+
+    pub one-joins : not told ≡ false
+        → ListedOne below P (blockerAt (unstampedRoom masks levels) place) near (set near end (getD masks place 0)) end (end + 1)
+    unfolding oneHolds written
+    one-joins n =
+        record {
+          low = omega arith;
+          narrow = omega arith;
+          kept = before;
+          holds = λ few from h case larger.
+              let e : end + 1 - from ≡ suc (end - from) = omega arith in
+              let here : from + (end - from) ≡ end = omega arith in
+              rw (
+                e,
+                here,
+                getD-set-same near end (getD masks place 0) 0 l,
+                one-same near written from (end - from) case (λ j low high. before j (omega arith)),
+                by-mask below P case larger (blockerAt (unstampedRoom masks levels) place) (covering ∙ not-false told n),
+              ) refl;
+        }
+
+-- a list that is full
+pub one-full : (below P : ℕ) (blocker : Blocker) (near : List ℕ) (end : ℕ) → length near < 65535 → end ≤ 65535 → ListedOne below P blocker near near end 65535
+one-full below P blocker near end narrow small =
+    record { low = small; narrow = omega arith; kept = λ j h. refl; holds = λ few. absurd (omega arith) }
 
 -- past blockers that do not pass a test
 any-past : (test : Blocker → Bool) (room : BlockerRoom) (held i count : ℕ) → i + count ≤ held → ((k : ℕ) → i ≤ k → k < i + count → test (blockerAt room k) ≡ false)

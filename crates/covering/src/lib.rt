@@ -13,8 +13,8 @@ ghost use Rattle.machine.specs.Machine.{blocked, settled as isSettled};
 ghost use Rattle.machine.specs.Lent.{blockerAt, unstampedRoom, blockersIn};
 ghost use Rattle.covering.specs.Listed.{oneHolds, ListedOne, Listed};
 
-// The mask of the blocker at the place joins the list that ends at `end` if it covers p; answers where the list then ends, or a place beyond the table if it
-// finds no room.
+// The mask of the blocker at the place joins the list that ends at `end` if it covers p; answers where the list then ends, or a place beyond the table if that is
+// full. It is written first and counts only then, so that there is no branch to predict.
 fn list_one(
     masks: &[u64],
     levels: &[u32],
@@ -27,13 +27,13 @@ fn list_one(
     requires { ⌜ (place < length (now masks)) × (place < length (now levels)) × (length (now near) < 65535) × (end ≤ 65535) ⌝ }
     ensures { λ r. ⌜ ListedOne (below .0) p (blockerAt (unstampedRoom (now (masks .entry)) (now (levels .entry))) place) (now (near .entry)) (now (near .exit)) end r ⌝ }
 {
-    if !reason_at(masks, levels, place, below, p).is_there() {
-        return end;
-    }
     if near.len() <= end {
         return 65535;
     }
     near[end] = masks[place];
+    if !reason_at(masks, levels, place, below, p).is_there() {
+        return end;
+    }
     end + 1
 }
 

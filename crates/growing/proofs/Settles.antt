@@ -20,9 +20,11 @@ use Rattle.automata.proofs.BackwardSets.{backward-monotone}
 use Rattle.automata.proofs.Reading.{head-symbols, head-initial}
 use Rattle.machine.specs.Machine.{Blocker, blocked}
 use Rattle.machine.specs.Machine as Machine
+use Rattle.passing.specs.Grown.{allSettled}
+use Rattle.passing.proofs.Passing.{all-fails}
 use Rattle.covering.specs.Listed.{oneHolds}
-use Rattle.growing.specs.Kept.{allSettled, Settling}
-use Rattle.automata.proofs.EachSymbol.{EachTried, each-goes, each-fails, each-ends}
+use Rattle.growing.specs.Kept.{Settling}
+use Rattle.automata.proofs.EachSymbol.{EachTried, each-goes}
 
 -- what is settled in a set is so in a larger one
 settled-larger : (initial : ℕ) (table : List Blocker) (below Y more P : ℕ) → T (subset Y more) → T (Machine.settled initial table below Y P)
@@ -61,13 +63,5 @@ module _ {image : List ℕ} {head : Head} {table : List Blocker} {below X Y more
     pub settle-goes : not b ≡ false → EachTried image (Machine.settled (head .initial) table below more) more (head .symbols) (s + 1)
     settle-goes n = each-goes tried (getD sets place 0) b l settle-back test n
 
-    pub settle-fails : not b ≡ true
-        → false ≡ allSettled image table below more
-    unfolding allSettled
-    settle-fails n = sym (rw (head-initial read) at (each-fails tried (getD sets place 0) b l settle-back test n))
-
-pub settle-ends : {image : List ℕ} {head : Head} (table : List Blocker) (below more : ℕ) {s : ℕ} → ReadAs image head
-    → EachTried image (Machine.settled (head .initial) table below more) more (head .symbols) s → head .symbols ≤ s
-    → true ≡ allSettled image table below more
-unfolding allSettled
-settle-ends table below more read tried l = sym (rw (head-initial read) at (each-ends tried l))
+    pub settle-fails : not b ≡ true → false ≡ allSettled image table below more
+    settle-fails n = all-fails table below read tried (getD sets place 0) b l settle-back test n

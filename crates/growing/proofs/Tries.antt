@@ -1,43 +1,35 @@
 -- One state is tried after the other: without the state, with it, and the walk over all. Assumes nothing.
-use Prim.Native.Nat.{ℕ, _+_, _-_, _≤_, _<_}
-use mathlib.Core.Path.{_≡_, refl, sym, ap, _∙_}
+use Prim.Native.Nat.{ℕ, _+_, _≤_, _<_}
+use mathlib.Core.Path.{_≡_, refl, sym, _∙_}
 use mathlib.Core.Bool.{Bool, true, false}
 use mathlib.Core.List.{List}
 use mathlib.Core.Logic.{_⊎_, inl, inr}
 use native.Mathlib.Omega.{arith}
 use lib.Dec.{T}
 use lib.ListN.{length}
-use Rattle.lists.specs.Tests.{_and_, _or_, neg}
 use Rattle.lists.proofs.Lists.{each-from-at}
-use Rattle.lists.proofs.Tests.{holds, fails, is-true, and-right}
-use Rattle.masks.specs.Sets.{Member, member, subset, union, single, within}
-use Rattle.masks.proofs.Laws.{member-means, subset-reflexive, subset-transitive, members-within, within-members}
+use Rattle.lists.proofs.Tests.{holds, fails, and-right}
+use Rattle.masks.specs.Sets.{Member, member, union, single, within}
+use Rattle.masks.proofs.Laws.{member-means, subset-reflexive}
 use Rattle.automata.specs.Image.{statesOf, symbolsOf, initialOf, rowsOf}
 use Rattle.automata.specs.Automaton.{backward}
 use Rattle.automata.specs.declared.image.Head.{Head}
 use Rattle.automata.specs.Answers.{ReadAs}
-use Rattle.automata.proofs.Reading.{head-states, head-symbols, head-initial, states-fit}
+use Rattle.automata.proofs.Reading.{head-symbols}
 use Rattle.machine.specs.Machine.{Blocker, passes, withState, byStates}
 use Rattle.machine.specs.Machine as Machine
 use Rattle.machine.specs.Runs.{systemOf}
 use Rattle.firing.specs.Sets.{SetsOf, Below, Trying}
-use Rattle.growing.specs.Kept.{allSettled, AllSettled, Begun, Growing, Settling, Copied}
-use Rattle.passing.proofs.States.{StatesTried, states-start, states-go, states-end}
+use Rattle.growing.specs.Kept.{AllSettled, Begun, Growing, Settling, Copied}
+use Rattle.passing.specs.Grown.{Grown}
+use Rattle.passing.proofs.States.{grown-more, StatesTried, states-start, state-known, states-go, states-end}
 use Rattle.firing.proofs.Fires.{in-more, more-holds}
 use Rattle.growing.proofs.Copies.{copied-sets}
 
-pub state-few : {image : List ℕ} {head : Head} → ReadAs image head → {q : ℕ} → q < head .states → q < 64
-state-few read l = omega (arith, states-fit read)
-
-pub state-tried : {image : List ℕ} {head : Head} {X q Y : ℕ} → ReadAs image head → Below X q Y → q < head .states → (there : Bool) → there ≡ member q X
-    → there ≡ false → (more : ℕ) → more ≡ union Y (single q) → Trying image X q Y more
-state-tried {X = X} {q = q} read below l there test new more put =
-    record {
-      below = below;
-      known = omega (arith, head-states read);
-      new = λ m. fails (sym test ∙ new) (member-means q X .1 m);
-      is = put;
-    }
+pub state-tried : {image : List ℕ} {X q Y : ℕ} → Below X q Y → q < statesOf image → (there : Bool) → there ≡ member q X → there ≡ false
+    → (more : ℕ) → more ≡ union Y (single q) → Trying image X q Y more
+state-tried {X = X} {q = q} below l there test new more put =
+    record { below = below; known = l; new = λ m. fails (sym test ∙ new) (member-means q X .1 m); is = put }
 
 module _ {image : List ℕ} {table : List Blocker} {below X q Y : ℕ} {sets next near ends : List ℕ}
     (growing : Growing image table below X q Y sets next near ends) where
@@ -66,15 +58,8 @@ module _ {image : List ℕ} {table : List Blocker} {below X q Y : ℕ} {sets nex
 
   -- with the state
   module _ {more : ℕ} (trying : Trying image X q Y more) where
-    inside : T (subset X more)
-    inside = subset-transitive X Y more (growing .states .inside) (more-holds trying)
-
-    fits : T (within (statesOf image) more)
-    fits = members-within (statesOf image) more (λ p m. from p (in-more trying p m))
-      where
-        from : (p : ℕ) → Member p Y ⊎ (p ≡ q) → p < statesOf image
-        from p (inl i) = within-members (statesOf image) Y (growing .fits) p i
-        from p (inr e) = omega (arith, trying .known)
+    pub grown : Grown image X more
+    grown = grown-more (record { inside = growing .states .inside; fits = growing .fits }) (trying .known) (trying .is)
 
     pub settling : (next′ : List ℕ) → SetsOf image more next′ → Settling image table below X Y more sets next′ near ends
     settling next′ are =
@@ -87,13 +72,6 @@ module _ {image : List ℕ} {table : List Blocker} {below X q Y : ℕ} {sets nex
           lists = growing .lists;
           settled = growing .settled;
         }
-
-    pub keeps-settled : {head : Head} → ReadAs image head → (initially : Bool) → initially ≡ subset (head .initial) more → initially ≡ false
-        → (r : Bool) → r ≡ allSettled image table below more → r ≡ passes (systemOf image) table below X more
-    unfolding passes _and_ neg allSettled
-    keeps-settled read initially test without r each =
-        let start : subset (initialOf image) more ≡ false = ap (λ (I : ℕ). subset I more) (sym (head-initial read)) ∙ sym test ∙ without in
-        sym (rw (is-true (subset X more) inside, start, is-true (within (statesOf image) more) fits) (sym each))
 
     all-settled : passes (systemOf image) table below X more ≡ true → AllSettled image table below more
     unfolding passes
@@ -109,8 +87,8 @@ module _ {image : List ℕ} {table : List Blocker} {below X q Y : ℕ} {sets nex
         → Copied count next′ sets′ → length sets′ ≡ length sets → length next′ ≡ length next → Growing image table below X (q + 1) more sets′ next′ near ends
     grows read r count sets′ next′ test made kept all copied sets-long next-long =
         record {
-          states = record { inside = inside; above = λ p l m. above p l (in-more trying p m) };
-          fits = fits;
+          states = record { inside = grown .inside; above = λ p l m. above p l (in-more trying p m) };
+          fits = grown .fits;
           room = record {
             sets-fit = omega (arith, sets-long, growing .room .sets-fit);
             near-narrow = growing .room .near-narrow;
@@ -138,7 +116,7 @@ pub tries-start : {image : List ℕ} {head : Head} {table : List Blocker} {below
     → StatesTrying image table below X (head .states) 0 X sets next sets next near ends
 tries-start {X = X} read begun fits room =
     record {
-      tried = states-start read;
+      tried = states-start read fits;
       growing = record {
         states = record { inside = subset-reflexive X; above = λ p l m. m };
         fits = fits;
@@ -164,6 +142,9 @@ module _ {image : List ℕ} {table : List Blocker} {below X states q Y : ℕ} {s
         sets-long = s ∙ so-far .sets-long;
         next-long = n ∙ so-far .next-long;
       }
+
+  pub tries-known : q < states → q < statesOf image
+  tries-known l = state-known (so-far .tried) l
 
   pub tries-end : states ≤ q → Y ≡ byStates (systemOf image) table below X
   tries-end l = states-end (so-far .tried) l

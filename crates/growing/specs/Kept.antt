@@ -1,11 +1,9 @@
 -- The backward sets of the set so far, kept for every symbol while it grows by its states. Assumes nothing: these are definitions.
 use Prim.Native.Nat.{ℕ, suc, _≤_, _<_}
 use mathlib.Core.Path.{_≡_}
-use mathlib.Core.Bool.{Bool}
 use mathlib.Core.List.{List}
 use lib.Dec.{T}
 use lib.ListN.{length, getD}
-use Rattle.lists.specs.Lists.{eachFrom}
 use Rattle.masks.specs.Sets.{subset, within}
 use Rattle.automata.specs.Image.{statesOf, symbolsOf, initialOf, rowsOf}
 use Rattle.automata.specs.Automaton.{backward}
@@ -13,10 +11,7 @@ use Rattle.machine.specs.Machine.{Blocker, settled}
 use Rattle.firing.specs.Sets.{SetsOf, Below}
 use Rattle.growing.specs.Near.{Near}
 
--- the test whether each backward set of Y is inside Y or blocked below, and that it is so
-unfoldable pub allSettled : List ℕ → List Blocker → ℕ → ℕ → Bool
-allSettled image table below Y = eachFrom (λ s. settled (initialOf image) table below Y (backward (rowsOf image s) Y)) (symbolsOf image) 0
-
+-- each backward set of Y is inside Y or blocked below
 pub record AllSettled (image : List ℕ) (table : List Blocker) (below Y : ℕ) : Type 0 where
   pub each : (s : ℕ) → s < symbolsOf image → T (settled (initialOf image) table below Y (backward (rowsOf image s) Y))
 

@@ -32,7 +32,7 @@ fn is_small(head: Head, blockers: usize) -> bool {
     wide(head.rows) / MANY_ROWS < symbols
 }
 
-// The set that x grows to by its states, as what blocks it one level above `below`.
+// The set that x grows to by its states, as what blocks it one level above `below`. No set with a bit at n or above passes.
 pub fn by_states(
     image: &[u8],
     head: Head,
@@ -44,10 +44,10 @@ pub fn by_states(
     requires { ⌜ ReadAs (now image) head ⌝ }
     ensures { λ r. ⌜ r ≡ byStates (systemOf (now (image .entry))) (blockersIn (now (masks .entry)) (now (levels .entry))) (below .0) x ⌝ }
 {
-    if is_small(head, masks.len()) {
-        return by_each(image, head, masks, levels, below, x);
-    }
     if !masks::within(head.states, x) {
+        return x;
+    }
+    if is_small(head, masks.len()) {
         return by_each(image, head, masks, levels, below, x);
     }
     trying::by_tables(image, head, masks, levels, below, x)

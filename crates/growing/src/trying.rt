@@ -25,10 +25,11 @@ ghost use Rattle.automata.specs.Answers.{ReadAs};
 ghost use Rattle.machine.specs.Machine.{passes, withState, byStates};
 ghost use Rattle.machine.specs.Lent.{blockersIn};
 ghost use Rattle.machine.specs.Runs.{systemOf};
+ghost use Rattle.passing.specs.Grown.{allSettled};
 ghost use Rattle.firing.specs.Linked.{Linked};
 ghost use Rattle.firing.specs.Sets.{SetsOf, Trying};
 ghost use Rattle.growing.specs.Near.{firstPlace};
-ghost use Rattle.growing.specs.Kept.{SymbolRoom, Begun, Growing, Settling, Copied, allSettled};
+ghost use Rattle.growing.specs.Kept.{SymbolRoom, Begun, Growing, Settling, Copied};
 
 // The first `count` places of one table become those of another.
 fn copy(from: &[u64], to: &mut [u64], count: usize)
@@ -229,7 +230,7 @@ fn try_state(
 ) -> u64
     requires { ⌜ ReadAs (now image) head × Linked (now image) x (rowCountOf (now image)) (now lasts) (now links) (now symbols)
         × Growing (now image) (blockersIn (now masks) (now levels)) (below .0) x (q .0) y (now sets) (now next) (now near) (now ends)
-        × (q .0 < head .states) ⌝ }
+        × (q .0 < statesOf (now image)) ⌝ }
     ensures { λ r. ⌜ (r ≡ withState (systemOf (now (image .entry))) (blockersIn (now (masks .entry)) (now (levels .entry))) (below .0) x (q .0) y)
         × Growing (now (image .entry)) (blockersIn (now (masks .entry)) (now (levels .entry))) (below .0) x (q .0 + 1) r
         (now (sets .exit)) (now (next .exit)) (now (near .entry)) (now (ends .entry)) ⌝ }

@@ -1,7 +1,7 @@
 use borrow.Author.Needs.{needs}
 use Prim.Native.Nat.{_-_}
 use Rattle.machine.specs.Lent.{blockersIn}
-use Rattle.passing.proofs.States.{StatesTried, states-start, state-fits, states-go, states-end}
+use Rattle.passing.proofs.States.{StatesTried, states-start, state-known, states-go, states-end}
 use Rattle.passing.proofs.by_each.Statement.{statement}
 use Rattle.passing.proofs.by_each.Tie as tie
 
@@ -15,7 +15,7 @@ loop-holds : tie.Need-loop-holds Inv-loop μ-loop
 loop-holds c = search (states-start, needs)
 
 with-state-requires : tie.Need-with-state-requires Inv-loop μ-loop
-with-state-requires c κs = search (state-fits, needs)
+with-state-requires c κs = search (state-known, needs)
 
 loop-again : tie.Need-loop-again Inv-loop μ-loop
 loop-again c = search (states-go, needs)

@@ -3,7 +3,8 @@ use Prim.Native.Nat.{_-_}
 use Rattle.machine.specs.Machine.{settled}
 use Rattle.machine.specs.Lent.{blockersIn}
 use Rattle.automata.proofs.EachSymbol.{EachTried, each-starts}
-use Rattle.growing.proofs.Settles.{settle-told, settle-same, settle-goes, settle-fails, settle-ends}
+use Rattle.passing.proofs.Passing.{all-ends}
+use Rattle.growing.proofs.Settles.{settle-told, settle-same, settle-goes, settle-fails}
 use Rattle.growing.proofs.trying.all_settled.Statement.{statement}
 use Rattle.growing.proofs.trying.all_settled.Tie as tie
 
@@ -27,7 +28,7 @@ loop-again : tie.Need-loop-again Inv-loop μ-loop
 loop-again c = search (settle-goes, needs)
 
 returns-2 : tie.Need-returns-2 Inv-loop μ-loop
-returns-2 c = search (settle-ends, needs)
+returns-2 c = search (all-ends, needs)
 
 pub all-settled-spec : {M : Type 1} → statement M
 all-settled-spec =

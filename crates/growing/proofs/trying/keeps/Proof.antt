@@ -1,7 +1,7 @@
 use borrow.Author.Needs.{needs}
-use Rattle.passing.proofs.Passing.{pass-initial}
+use Rattle.passing.proofs.Passing.{pass-initial, pass-grown}
 use Rattle.lists.proofs.Tests.{holds}
-use Rattle.growing.proofs.Tries.{settling, keeps-settled}
+use Rattle.growing.proofs.Tries.{grown, settling}
 use Rattle.growing.proofs.trying.keeps.Statement.{statement}
 use Rattle.growing.proofs.trying.keeps.Tie as tie
 
@@ -15,7 +15,7 @@ all-settled-requires : tie.Need-all-settled-requires
 all-settled-requires c κs = (search needs, search (settling, needs))
 
 returns-2 : tie.Need-returns-2
-returns-2 c = (search (keeps-settled, needs), λ e. search needs)
+returns-2 c = (search (pass-grown, grown, needs), λ e. search needs)
 
 pub keeps-spec : {M : Type 1} → statement M
 keeps-spec =

@@ -1,6 +1,6 @@
 use borrow.Author.Needs.{needs}
-use Rattle.passing.proofs.States.{state-there, state-kept, state-left}
-use Rattle.growing.proofs.Tries.{state-few, state-tried, copies-sets, copies-next, grows-on, grows-same, grows}
+use Rattle.passing.proofs.States.{state-few, state-there, state-kept, state-left}
+use Rattle.growing.proofs.Tries.{state-tried, copies-sets, copies-next, grows-on, grows-same, grows}
 use Rattle.growing.proofs.trying.try_state.Statement.{statement}
 use Rattle.growing.proofs.trying.try_state.Tie as tie
 
@@ -40,16 +40,16 @@ start-of c = search
 
 returns-2 : tie.Need-returns-2
 unfolding keeps-of next-of count-of insert-of member-of start-of
-returns-2 c =
-    let kept = keeps-of c in
-    let put = insert-of kept in
-    let tested = member-of put in
-    let pre = start-of tested .pre in
-    let trying = state-tried (pre .0) (pre .2 .states) (pre .3) _ (tested .member .ensures) (search needs) _ (put .insert .ensures) in (
-      search (state-kept, needs),
+returns-2 c = (
+  search (state-kept, needs),
+  let kept = keeps-of c in
+      let put = insert-of kept in
+      let tested = member-of put in
+      let pre = start-of tested .pre in
+      let trying = state-tried (pre .2 .states) (pre .3) _ (tested .member .ensures) (search needs) _ (put .insert .ensures) in
       grows (pre .2) trying (pre .0) _ _ _ _ (kept .keeps .ensures .0) (kept .keeps .ensures .1) (search needs) (count-of c .place-of .ensures) (search needs) (search needs)
-          (next-of c .next .given),
-    )
+      (next-of c .next .given),
+)
 
 returns-3 : tie.Need-returns-3
 returns-3 c = (search (state-left, needs), search (grows-on, needs))
