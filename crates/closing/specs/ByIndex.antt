@@ -1,42 +1,16 @@
--- What rises by an index leave of the levels while nothing closes up, and the marks of levels. Assumes nothing: these are definitions.
-use Prim.Native.Nat.{ℕ, _≤_, _<_}
+-- Whether a close goes by an index, and the marks of levels. Assumes nothing: these are definitions.
+use Prim.Native.Nat.{ℕ, _<_}
 use mathlib.Core.Path.{_≡_}
-use mathlib.Core.Bool.{Bool, true, false}
+use mathlib.Core.Bool.{Bool, true}
 use mathlib.Core.List.{List}
 use lib.Dec.{eqb}
-use lib.ListN.{length, getD, take, drop}
+use lib.ListN.{length, getD, take}
 use Rattle.lists.specs.Tests.{neg}
-use Rattle.lists.specs.Lists.{any, eachFrom}
-use Rattle.machine.specs.System.{System}
-use Rattle.machine.specs.Machine.{Blocker, covers, frame}
-use Rattle.machine.specs.Lent.{roomOf}
-use Rattle.blockers.specs.Room.{tableOf}
-use Rattle.indexing.specs.Index.{RisenIn}
-use Rattle.rising.specs.Risen.{risenAt, risenBy}
-
--- each backward set of the mask is a subset of a blocker of level j or more
-abbrev pub eachCovered : System → List Blocker → ℕ → ℕ → Bool
-eachCovered S table j mask = eachFrom (λ s. any (covers j (S .backward s mask)) table) (S .symbols) 0
-
--- the blocker at `place` has risen if the test holds, else the levels are as before
-pub record TriedIn (test : Bool) (place held : ℕ) (masks levels levels′ : List ℕ) : Type 0 where
-  pub stays : test ≡ false → levels′ ≡ levels
-  pub rises : test ≡ true → RisenIn place held masks levels levels′
+use Rattle.lists.specs.Lists.{any}
 
 -- where the answer is yes, none of the first `held` levels is 0
 pub record NoneLeft (held : ℕ) (levels : List ℕ) (answer : Bool) : Type 0 where
   pub none : answer ≡ true → neg (any (λ other. eqb other 0) (take held levels)) ≡ true
-
--- The rises at level j, where the blockers of level 0 are those that have left, whenever they entered.
-pub record LevelRisen (S : System) (j held : ℕ) (masks levels levels′ : List ℕ) : Type 0 where
-  pub behind : drop held levels′ ≡ drop held levels
-  pub was : (i : ℕ) → i < held → j ≤ getD levels′ i 0 → j ≤ getD levels i 0
-  pub table : (entered : List ℕ) → frame 0 (tableOf held (roomOf masks levels′ entered)) ≡ risenAt S j (frame 0 (tableOf held (roomOf masks levels entered)))
-
--- and those at each level from 1 to `top`
-pub record AllRisen (S : System) (top held : ℕ) (masks levels levels′ : List ℕ) : Type 0 where
-  pub behind : drop held levels′ ≡ drop held levels
-  pub table : (entered : List ℕ) → frame 0 (tableOf held (roomOf masks levels′ entered)) ≡ risenBy S top (frame 0 (tableOf held (roomOf masks levels entered)))
 
 -- a mark is 0 where none of the first `count` levels is its place
 pub record Marked (levels : List ℕ) (count : ℕ) (marks : List ℕ) : Type 0 where

@@ -1,5 +1,4 @@
 // The close: at each level the blockers that can rise do so, and then the lowest level that holds none is looked for.
-mod by_index; // by_index.rt: the rises by an index
 mod vacancy; // vacancy.rt: the lowest level that holds no blocker
 
 use automata::image::Head;
@@ -55,7 +54,7 @@ fn rise_all(
     if !is_indexed(levels, held) {
         return rising::rise_levels(image, head, masks, levels, entered, held, top);
     }
-    by_index::rise_in_room(image, head, masks, levels, held, top);
+    sinking::rise_in_room(image, head, masks, levels, held, top);
     blockers::frame(masks, levels, entered, held, Level(0))
 }
 

@@ -1,6 +1,6 @@
 use borrow.Author.Needs.{needs}
-use Rattle.closing.proofs.by_index.rise_levels.Statement.{statement}
-use Rattle.closing.proofs.by_index.rise_levels.Tie as tie
+use Rattle.sinking.proofs.rise_levels.Statement.{statement}
+use Rattle.sinking.proofs.rise_levels.Tie as tie
 
 rise-by-requires : tie.Need-rise-by-requires
 rise-by-requires c κs = (search needs, search needs, search needs, search needs, search needs, search needs)

@@ -1,7 +1,7 @@
-use Rattle.closing.proofs.Walking.{tries-stay, tries-rise}
+use Rattle.sinking.proofs.Walking.{tries-stay, tries-rise}
 use borrow.Author.Needs.{needs}
-use Rattle.closing.proofs.by_index.try_rise.Statement.{statement}
-use Rattle.closing.proofs.by_index.try_rise.Tie as tie
+use Rattle.sinking.proofs.try_rise.Statement.{statement}
+use Rattle.sinking.proofs.try_rise.Tie as tie
 
 returns : tie.Need-returns
 returns c = search (tries-stay, needs)

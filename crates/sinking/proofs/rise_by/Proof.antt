@@ -2,9 +2,9 @@ use borrow.Author.Needs.{needs}
 use Prim.Native.Nat.{_+_, _-_}
 use Rattle.machine.specs.Runs.{systemOf}
 use Rattle.rising.proofs.Levels.{level-fits, level-nears}
-use Rattle.closing.proofs.Indexed.{Indexed, indexed-starts, indexed-above, indexed-goes, indexed-ends}
-use Rattle.closing.proofs.by_index.rise_by.Statement.{statement}
-use Rattle.closing.proofs.by_index.rise_by.Tie as tie
+use Rattle.sinking.proofs.Indexed.{Indexed, indexed-starts, indexed-above, indexed-goes, indexed-ends}
+use Rattle.sinking.proofs.rise_by.Statement.{statement}
+use Rattle.sinking.proofs.rise_by.Tie as tie
 
 abbrev Inv-loop : tie.InvT-loop
 Inv-loop image head masks levels₀ held low₀ places₀ lacks top every extent₀ level₀ levels low places extent level = Indexed (systemOf image) (top .0) held masks low₀ places₀ levels₀ (level .0) (extent .upto) (extent .end) low places levels

@@ -4,9 +4,9 @@ use Rattle.lists.specs.Lists.{any}
 use Rattle.machine.specs.Machine.{covers}
 use Rattle.machine.specs.Lent.{blockersFrom, unstampedRoom}
 use Rattle.automata.proofs.EachSymbol.{EachTried, each-starts, each-known}
-use Rattle.closing.proofs.Covered.{covered-goes, covered-fails, covered-all}
-use Rattle.closing.proofs.by_index.each_covered.Statement.{statement}
-use Rattle.closing.proofs.by_index.each_covered.Tie as tie
+use Rattle.sinking.proofs.Covered.{covered-goes, covered-fails, covered-all}
+use Rattle.sinking.proofs.each_covered.Statement.{statement}
+use Rattle.sinking.proofs.each_covered.Tie as tie
 
 abbrev Inv-loop : tie.InvT-loop
 Inv-loop image head masks levels held low places listed level mask symbol₀ symbol = EachTried image (λ P. any (covers (level .0) P) (blockersFrom (unstampedRoom masks levels) held 0)) mask (head .symbols) (symbol .0)

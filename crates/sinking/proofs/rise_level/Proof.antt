@@ -1,9 +1,9 @@
 use borrow.Author.Needs.{needs}
 use Prim.Native.Nat.{_-_}
 use Rattle.machine.specs.Runs.{systemOf}
-use Rattle.closing.proofs.Walking.{Walk, walk-starts, walk-index, walk-levels, walk-below, walk-goes, walk-none, walk-ends}
-use Rattle.closing.proofs.by_index.rise_level.Statement.{statement}
-use Rattle.closing.proofs.by_index.rise_level.Tie as tie
+use Rattle.sinking.proofs.Walking.{Walk, walk-starts, walk-index, walk-levels, walk-below, walk-goes, walk-none, walk-ends}
+use Rattle.sinking.proofs.rise_level.Statement.{statement}
+use Rattle.sinking.proofs.rise_level.Tie as tie
 
 abbrev Inv-loop : tie.InvT-loop
 Inv-loop image head masks levels₀ held low places listed lacks level from₀ levels from = Walk (systemOf image) (level .0) held (listed .upto) (listed .end) masks low places levels₀ from levels

@@ -9,7 +9,7 @@ use Rattle.automata.specs.Automaton.{backward}
 use Rattle.automata.proofs.EachSymbol.{EachTried, each-goes, each-fails, each-ends}
 use Rattle.machine.specs.Machine.{Blocker, covers}
 use Rattle.machine.specs.Runs.{systemOf}
-use Rattle.closing.specs.ByIndex.{eachCovered}
+use Rattle.sinking.specs.Sunk.{eachCovered}
 
 -- the test of its backward sets by the index
 module _ (image : List ℕ) (table : List Blocker) (level mask symbols s : ℕ) (tried : EachTried image (λ P. any (covers level P) table) mask symbols s) where

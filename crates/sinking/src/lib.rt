@@ -16,7 +16,7 @@ ghost use Rattle.automata.specs.Answers.{ReadAs};
 ghost use Rattle.machine.specs.Lent.{unstampedRoom, blockersFrom};
 ghost use Rattle.machine.specs.Runs.{systemOf};
 ghost use Rattle.indexing.specs.Index.{Index, Noted};
-ghost use Rattle.closing.specs.ByIndex.{eachCovered, TriedIn, LevelRisen, AllRisen};
+ghost use Rattle.sinking.specs.Sunk.{eachCovered, TriedIn, LevelRisen, AllRisen};
 
 // Whether each backward set of the mask is a subset of a blocker of this level or more.
 fn each_covered(

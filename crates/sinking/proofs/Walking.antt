@@ -21,9 +21,9 @@ use Rattle.blockers.specs.Room.{tableOf}
 use Rattle.blockers.proofs.Walks.{next-blocker, no-blocker}
 use Rattle.rising.specs.Risen.{risenAt}
 use Rattle.indexing.specs.Index.{Next, Index, sunkLevel, RisenIn}
-use Rattle.closing.specs.ByIndex.{eachCovered, TriedIn, LevelRisen}
+use Rattle.sinking.specs.Sunk.{eachCovered, TriedIn, LevelRisen}
 use Rattle.rising.proofs.Along.{along, along-ends, table-apart, one-more}
-use Rattle.closing.proofs.Sinking.{sunken, pass-one, rise-one, frame-last}
+use Rattle.sinking.proofs.Sinking.{sunken, pass-one, rise-one, frame-last}
 
 -- blockers of level 0 cover nothing at level 1 or above
 frame-covers : (i P : ℕ) (table : List Blocker) → any (covers (suc i) P) (frame 0 table) ≡ any (covers (suc i) P) table
