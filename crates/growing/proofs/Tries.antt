@@ -22,7 +22,7 @@ use Rattle.machine.specs.Runs.{systemOf}
 use Rattle.firing.specs.Sets.{SetsOf, Below, Trying}
 use Rattle.growing.specs.Kept.{AllSettled, Begun, Growing, Settling, Copied}
 use Rattle.passing.specs.Grown.{Grown}
-use Rattle.passing.proofs.States.{grown-more, StatesTried, states-start, state-known, states-go, states-end}
+use Rattle.passing.proofs.States.{grown-more, StatesTried, states-start, states-go, states-end}
 use Rattle.firing.proofs.Fires.{in-more, more-holds}
 use Rattle.growing.proofs.Copies.{copied-sets}
 
@@ -142,9 +142,6 @@ module _ {image : List ℕ} {table : List Blocker} {below X states q Y : ℕ} {s
         sets-long = s ∙ so-far .sets-long;
         next-long = n ∙ so-far .next-long;
       }
-
-  pub tries-known : q < states → q < statesOf image
-  tries-known l = state-known (so-far .tried) l
 
   pub tries-end : states ≤ q → Y ≡ byStates (systemOf image) table below X
   tries-end l = states-end (so-far .tried) l

@@ -109,7 +109,8 @@ module _ (S : System) (table : List Blocker) (below X : ℕ) (beyond : within (S
   states-beyond zero q = refl
   states-beyond (suc count) q = ap (withStates S table below X count (suc q)) (state-beyond q) ∙ states-beyond count (suc q)
 
-pub grows-beyond : {image : List ℕ} {head : Head} (table : List Blocker) (below : ℕ) {X : ℕ} → ReadAs image head → (b : Bool) → b ≡ within (head .states) X → not b ≡ true → X ≡ byStates (systemOf image) table below X
+pub grows-beyond : {image : List ℕ} {head : Head} (table : List Blocker) (below : ℕ) {X : ℕ} → ReadAs image head
+    → (b : Bool) → b ≡ within (head .states) X → not b ≡ true → X ≡ byStates (systemOf image) table below X
 unfolding byStates
 grows-beyond {image} table below {X} read b e n =
     sym (states-beyond (systemOf image) table below X (ap (λ (n : ℕ). within n X) (sym (head-states read)) ∙ sym e ∙ not-true b n) (statesOf image) 0)

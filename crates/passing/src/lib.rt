@@ -75,7 +75,8 @@ pub fn passes(
     all_settled(image, head, masks, levels, below, y)
 }
 
-// The set y, which has grown from x, with the state q if that is not in x and the set with it still passes.
+// The set y, which has grown from x, with the state q if that is not in x and the set with it still passes. That the set contains x and has no bit at n or above
+// is known, and not asked again.
 fn with_state(
     image: &[u8],
     head: Head,

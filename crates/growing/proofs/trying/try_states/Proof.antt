@@ -1,7 +1,8 @@
 use borrow.Author.Needs.{needs}
 use Prim.Native.Nat.{_-_}
 use Rattle.machine.specs.Lent.{blockersIn}
-use Rattle.growing.proofs.Tries.{StatesTrying, tries-start, tries-known, tries-go, tries-end}
+use Rattle.passing.proofs.States.{state-known}
+use Rattle.growing.proofs.Tries.{StatesTrying, tries-start, tries-go, tries-end}
 use Rattle.growing.proofs.trying.try_states.Statement.{statement}
 use Rattle.growing.proofs.trying.try_states.Tie as tie
 
@@ -15,7 +16,7 @@ loop-holds : tie.Need-loop-holds Inv-loop μ-loop
 loop-holds c = search (tries-start, needs)
 
 try-state-requires : tie.Need-try-state-requires Inv-loop μ-loop
-try-state-requires c κs = (search needs, search needs, search needs, search (tries-known, needs))
+try-state-requires c κs = (search needs, search needs, search needs, search (state-known, needs))
 
 loop-again : tie.Need-loop-again Inv-loop μ-loop
 loop-again c = search (tries-go, needs)
