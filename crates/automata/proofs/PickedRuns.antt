@@ -13,7 +13,7 @@ use Rattle.lists.specs.Tests.{choose}
 use Rattle.lists.specs.Lists.{_∈_, here, there, Each, firstOf}
 use Rattle.lists.proofs.Tests.{is-true, and-left, and-right, and-both, choose-true}
 use Rattle.lists.proofs.Lists.{in-none, each-more, first-of-none, first-of-some, first-in}
-use Rattle.masks.specs.Sets.{Member, member, subset, union, within}
+use Rattle.masks.specs.Sets.{Member, member, subset, within}
 use Rattle.masks.proofs.Laws.{member-means, subset-members, members-subset, empty-members, union-members, within-members, members-within}
 use Rattle.automata.specs.Image.{Row}
 use Rattle.automata.specs.Automaton.{Automaton, backward, takenBack}

@@ -9,7 +9,6 @@ use lib.Dec.{T, eqb, ltb, eqb→eq, ltb→lt}
 use borrow.Author.Tests.{eqb-false, ltb-false, lt-ltb, le-ltb}
 use lib.ListN.{length}
 use lib.Pow.{pow-mono}
-use Rattle.lists.specs.Tests.{_and_, _or_}
 use Rattle.lists.specs.Lists.{_∈_, Each}
 use Rattle.lists.proofs.Tests.{is-false, and-left, and-right, or-left, or-right, neg-neg, choose-true, choose-false}
 use Rattle.lists.proofs.Lists.{in-none, each-more, each-from-at}

@@ -9,7 +9,6 @@ use borrow.Author.Tests.{not-false, eqb-true, eqb-false}
 use lib.Dec.{T, eqb}
 use lib.ListN.{length, getD, set, length-set, replicate, length-replicate}
 use lib.Seq.{getD-set-same, getD-set-other}
-use Rattle.lists.specs.Tests.{_or_}
 use Rattle.lists.specs.Lists.{any}
 use Rattle.lists.proofs.Tests.{holds}
 use Rattle.masks.specs.Sets.{subset, within}

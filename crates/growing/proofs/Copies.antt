@@ -1,17 +1,15 @@
 -- The copy of the first places of one table into another, and of sets. Assumes nothing.
-use Prim.Native.Nat.{ℕ, _+_, _-_, _≤_, _<_}
+use Prim.Native.Nat.{ℕ, _+_, _≤_, _<_}
 use mathlib.Core.Path.{_≡_, refl, _∙_}
 use mathlib.Core.List.{List}
 use native.Mathlib.Decide.{ℕ-discrete}
 use native.Mathlib.Omega.{arith}
 use lib.ListN.{length, getD, set, length-set}
 use lib.Seq.{getD-set-same, getD-set-other}
-use Rattle.lists.specs.Tests.{_or_}
 use Rattle.automata.specs.Image.{symbolsOf}
 use Rattle.automata.specs.declared.image.Head.{Head}
 use Rattle.automata.specs.Answers.{ReadAs}
 use Rattle.automata.proofs.Reading.{head-symbols}
-use Rattle.machine.specs.Machine as Machine
 use Rattle.firing.specs.Sets.{SetsOf}
 use Rattle.growing.specs.Kept.{Copied}
 

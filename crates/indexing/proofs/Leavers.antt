@@ -9,10 +9,9 @@ use native.Mathlib.Omega.{arith}
 use lib.Dec.{leb}
 use lib.ListN.{length, getD, set, drop, length-set}
 use lib.Seq.{getD-set-same, getD-set-other, drop-set-lt}
-use Rattle.lists.specs.Tests.{_and_, _or_, choose}
+use Rattle.lists.specs.Tests.{_and_, choose}
 use Rattle.lists.proofs.Tests.{choose-true, choose-false}
 use Rattle.masks.specs.Sets.{subset}
-use Rattle.machine.specs.Machine.{risen}
 use Rattle.indexing.specs.Index.{Next, sunkLevel, Sunk, RisenIn}
 
 -- the level of a subset that sinks, and of what stays

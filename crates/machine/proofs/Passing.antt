@@ -8,7 +8,7 @@ use mathlib.Core.Logic.{_⊎_, inl, inr}
 use mathlib.Core.Option.{Option, none, some}
 use native.Mathlib.Omega.{arith}
 use lib.Dec.{T}
-use Rattle.lists.specs.Tests.{_and_, _or_, neg, choose}
+use Rattle.lists.specs.Tests.{_and_, neg, choose}
 use Rattle.lists.proofs.Tests.{holds, and-left, and-right, and-both, or-cases, or-left, or-right, neg-fails, fails-neg, neg-neg}
 use Rattle.lists.proofs.Lists.{each-from-at, at-each-from}
 use Rattle.masks.specs.Sets.{subset, union, single, member, within}

@@ -9,7 +9,7 @@ use borrow.Author.Tests.{ltb-false}
 use lib.Dec.{T, ltb, ltb→lt}
 use Rattle.lists.specs.Tests.{neg}
 use Rattle.lists.specs.Lists.{Each, all}
-use Rattle.lists.proofs.Tests.{fails, is-true, is-false, decide}
+use Rattle.lists.proofs.Tests.{is-true, is-false, decide}
 use Rattle.lists.proofs.Lists.{all-each, Fails, all-or-one}
 use Rattle.automata.specs.Image.{Valid, check, checkImage, symbolsOf}
 use Rattle.automata.specs.Automaton.{Automaton, automatonOf, SameAutomaton, HoldOne}

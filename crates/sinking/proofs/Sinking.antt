@@ -1,10 +1,10 @@
 -- Without those of level 0, a table in which leavers sank to level 0 is that of 01. Assumes nothing.
-use Prim.Native.Nat.{ℕ, _+_}
+use Prim.Native.Nat.{ℕ}
 use mathlib.Core.Path.{_≡_, refl, sym, ap, ap₂, _∙_}
 use mathlib.Core.Bool.{Bool, true, false}
 use mathlib.Core.List.{List, [], _∷_, _++_, append-nil}
 use lib.Dec.{leb, ltb}
-use Rattle.lists.specs.Tests.{_and_, _or_, neg, choose}
+use Rattle.lists.specs.Tests.{_and_, neg, choose}
 use Rattle.lists.specs.Lists.{keep}
 use Rattle.lists.proofs.Tests.{choose-true, choose-false}
 use Rattle.lists.proofs.Lists.{keep-append}

@@ -2,8 +2,6 @@ use Rattle.lists.specs.Tests.{_and_}
 use borrow.Author.Needs.{needs}
 use Rattle.blockers.proofs.both.Statement.{statement}
 use Rattle.blockers.proofs.both.Tie as tie
-use Rattle.blockers.proofs.both.Reads as reads
-use Rattle.blockers.proofs.both.Lts as lts
 
 returns : tie.Need-returns
 unfolding _and_

@@ -2,8 +2,6 @@ use borrow.Author.Needs.{needs}
 use Rattle.exports.proofs.Calls.{numbers-open, numbers-shut}
 use Rattle.exports.proofs.numbers_of.Statement.{statement}
 use Rattle.exports.proofs.numbers_of.Tie as tie
-use Rattle.exports.proofs.numbers_of.Reads as reads
-use Rattle.exports.proofs.numbers_of.Lts as lts
 
 returns : tie.Need-returns
 returns c = search (numbers-open, needs)

@@ -2,8 +2,6 @@ use Rattle.masks.proofs.Laws.{adds-none}
 use borrow.Author.Needs.{needs}
 use Rattle.masks.proofs.adds_none.Statement.{statement}
 use Rattle.masks.proofs.adds_none.Tie as tie
-use Rattle.masks.proofs.adds_none.Reads as reads
-use Rattle.masks.proofs.adds_none.Lts as lts
 
 returns : tie.Need-returns
 returns c = search (adds-none, needs)

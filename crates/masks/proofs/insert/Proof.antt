@@ -4,18 +4,10 @@ use Rattle.masks.proofs.Laws.{shifted-one}
 use borrow.Author.Needs.{needs}
 use Rattle.masks.proofs.insert.Statement.{statement}
 use Rattle.masks.proofs.insert.Tie as tie
-use Rattle.masks.proofs.insert.Reads as reads
-use Rattle.masks.proofs.insert.Lts as lts
-
-cast-result : tie.Need-cast-result
-cast-result c = search needs
-
-shl-result : tie.Need-shl-result
-shl-result c = search needs
 
 returns : tie.Need-returns
 unfolding union
 returns c = ap (union (c .before .args .set)) (shifted-one 64 (c .before .args .q .0) (c .before .pre))
 
 pub insert-spec : {M : Type 1} → statement M
-insert-spec = tie.close (tie.spec cast-result shl-result returns)
+insert-spec = tie.close (tie.spec (λ c. search needs) (λ c. search needs) returns)

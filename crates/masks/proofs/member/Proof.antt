@@ -3,18 +3,10 @@ use lib.Bits.{and-mask}
 use borrow.Author.Needs.{needs}
 use Rattle.masks.proofs.member.Statement.{statement}
 use Rattle.masks.proofs.member.Tie as tie
-use Rattle.masks.proofs.member.Reads as reads
-use Rattle.masks.proofs.member.Lts as lts
-
-cast-result : tie.Need-cast-result
-cast-result c = search needs
-
-shr-result : tie.Need-shr-result
-shr-result c = search needs
 
 returns : tie.Need-returns
 unfolding member
 returns c = rw (and-mask _ 1)
 
 pub member-spec : {M : Type 1} → statement M
-member-spec = tie.close (tie.spec cast-result shr-result returns)
+member-spec = tie.close (tie.spec (λ c. search needs) (λ c. search needs) returns)

@@ -2,8 +2,6 @@ use borrow.Author.Needs.{needs}
 use Rattle.masks.specs.Sets.{subset}
 use Rattle.masks.proofs.subset.Statement.{statement}
 use Rattle.masks.proofs.subset.Tie as tie
-use Rattle.masks.proofs.subset.Reads as reads
-use Rattle.masks.proofs.subset.Lts as lts
 
 returns : tie.Need-returns
 unfolding subset

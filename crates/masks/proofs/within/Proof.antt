@@ -2,9 +2,6 @@ use Rattle.masks.proofs.Laws.{within-none, within-any, within-test}
 use borrow.Author.Needs.{needs}
 use Rattle.masks.proofs.within.Statement.{statement}
 use Rattle.masks.proofs.within.Tie as tie
-use Rattle.masks.proofs.within.Reads as reads
-use Rattle.masks.proofs.within.Lts as lts
-use Rattle.masks.proofs.full.Reads as full-reads
 
 returns : tie.Need-returns
 returns c = search (within-none, needs)
@@ -12,11 +9,8 @@ returns c = search (within-none, needs)
 returns-2 : tie.Need-returns-2
 returns-2 c = search (within-any, needs)
 
-full-requires : tie.Need-full-requires
-full-requires c κs = search needs
-
 returns-3 : tie.Need-returns-3
 returns-3 c = search (within-test, needs)
 
 pub within-spec : {M : Type 1} → statement M
-within-spec = tie.close (tie.spec returns returns-2 full-requires returns-3)
+within-spec = tie.close (tie.spec returns returns-2 (λ c κs. search needs) returns-3)

@@ -2,8 +2,6 @@ use borrow.Author.Needs.{needs}
 use Rattle.masks.specs.Sets.{without}
 use Rattle.masks.proofs.without.Statement.{statement}
 use Rattle.masks.proofs.without.Tie as tie
-use Rattle.masks.proofs.without.Reads as reads
-use Rattle.masks.proofs.without.Lts as lts
 
 returns : tie.Need-returns
 unfolding without

@@ -5,21 +5,12 @@ use Rattle.automata.proofs.RowWalks.{walk-starts, one-stands, one-goes,
 use borrow.Author.Needs.{needs}
 use Rattle.automata.proofs.backward.backward.Statement.{statement}
 use Rattle.automata.proofs.backward.backward.Tie as tie
-use Rattle.automata.proofs.backward.backward.Reads as reads
-use Rattle.automata.proofs.backward.backward.Lts as lts
-use Rattle.automata.proofs.backward.by_fours.Reads as by-fours-reads
-use Rattle.automata.proofs.backward.with_row.Reads as with-row-reads
-use Rattle.automata.proofs.rows.rows_of.Reads as rows-of-reads
-use Rattle.masks.proofs.full.Reads as full-reads
 
 abbrev Inv-loop : tie.InvT-loop
 Inv-loop image x start end all at₀ set₀ at set = Walking image start end x at set
 
 abbrev μ-loop : tie.MeasureT-loop
 μ-loop image x start end all at₀ set₀ at set = end - at
-
-rows-of-requires : tie.Need-rows-of-requires Inv-loop μ-loop
-rows-of-requires c κs = search needs
 
 shared-slice-read-full : tie.Need-shared-slice-read-full Inv-loop μ-loop
 shared-slice-read-full c = search (valid-kept _ (c .before .before .before .pre .0), needs)
@@ -30,29 +21,14 @@ full-requires c κs = search (valid-kept _ (c .before .before .before .pre .0), 
 by-fours-requires : tie.Need-by-fours-requires Inv-loop μ-loop
 by-fours-requires c κs = search (walk-starts, needs)
 
-loop-holds : tie.Need-loop-holds Inv-loop μ-loop
-loop-holds c = search needs
-
 with-row-requires : tie.Need-with-row-requires Inv-loop μ-loop
 with-row-requires c κs = search (one-stands, needs)
-
-add-at : tie.Need-add-at Inv-loop μ-loop
-add-at c = search needs
-
-sub-rows : tie.Need-sub-rows Inv-loop μ-loop
-sub-rows c = search needs
 
 returns : tie.Need-returns Inv-loop μ-loop
 returns c = search (walk-filled, needs)
 
-loop-less : tie.Need-loop-less Inv-loop μ-loop
-loop-less c = search needs
-
 loop-again : tie.Need-loop-again Inv-loop μ-loop
 loop-again c = search (one-goes, needs)
-
-sub-t16 : tie.Need-sub-t16 Inv-loop μ-loop
-sub-t16 c = search needs
 
 returns-2 : tie.Need-returns-2 Inv-loop μ-loop
 returns-2 c = search (walk-ended, needs)
@@ -63,16 +39,16 @@ backward-spec =
     (tie.spec
     Inv-loop
     μ-loop
-    rows-of-requires
+    (λ c κs. search needs)
     shared-slice-read-full
     full-requires
     by-fours-requires
-    loop-holds
+    (λ c. search needs)
     with-row-requires
-    add-at
-    sub-rows
+    (λ c. search needs)
+    (λ c. search needs)
     returns
-    loop-less
+    (λ c. search needs)
     loop-again
-    sub-t16
+    (λ c. search needs)
     returns-2)

@@ -3,12 +3,6 @@ use Rattle.automata.proofs.RowWalks.{part-stands, four-rows}
 use borrow.Author.Needs.{needs}
 use Rattle.automata.proofs.backward.with_four.Statement.{statement}
 use Rattle.automata.proofs.backward.with_four.Tie as tie
-use Rattle.automata.proofs.backward.with_four.Reads as reads
-use Rattle.automata.proofs.backward.with_four.Lts as lts
-use Rattle.automata.proofs.backward.with_two.Reads as with-two-reads
-
-add-with-two : tie.Need-add-with-two
-add-with-two c = search needs
 
 with-two-requires : tie.Need-with-two-requires
 with-two-requires c κs = part-stands 0 2 (c .before .pre) (omega arith) (omega arith)
@@ -20,4 +14,4 @@ returns : tie.Need-returns
 returns c = search (four-rows, needs)
 
 pub with-four-spec : {M : Type 1} → statement M
-with-four-spec = tie.close (tie.spec add-with-two with-two-requires with-two-requires-2 returns)
+with-four-spec = tie.close (tie.spec (λ c. search needs) with-two-requires with-two-requires-2 returns)

@@ -3,12 +3,6 @@ use Rattle.automata.proofs.RowWalks.{part-stands, two-rows}
 use borrow.Author.Needs.{needs}
 use Rattle.automata.proofs.backward.with_two.Statement.{statement}
 use Rattle.automata.proofs.backward.with_two.Tie as tie
-use Rattle.automata.proofs.backward.with_two.Reads as reads
-use Rattle.automata.proofs.backward.with_two.Lts as lts
-use Rattle.automata.proofs.backward.with_row.Reads as with-row-reads
-
-add-with-row : tie.Need-add-with-row
-add-with-row c = search needs
 
 with-row-requires : tie.Need-with-row-requires
 with-row-requires c κs = part-stands 0 1 (c .before .pre) (omega arith) (omega arith)
@@ -20,4 +14,4 @@ returns : tie.Need-returns
 returns c = search (two-rows, needs)
 
 pub with-two-spec : {M : Type 1} → statement M
-with-two-spec = tie.close (tie.spec add-with-row with-row-requires with-row-requires-2 returns)
+with-two-spec = tie.close (tie.spec (λ c. search needs) with-row-requires with-row-requires-2 returns)

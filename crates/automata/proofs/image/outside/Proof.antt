@@ -2,8 +2,6 @@ use borrow.Author.Needs.{needs}
 use Rattle.automata.proofs.Checks.{outside-zero, outside-above}
 use Rattle.automata.proofs.image.outside.Statement.{statement}
 use Rattle.automata.proofs.image.outside.Tie as tie
-use Rattle.automata.proofs.image.outside.Reads as reads
-use Rattle.automata.proofs.image.outside.Lts as lts
 
 returns : tie.Need-returns
 returns c = search (outside-zero, needs)

@@ -2,14 +2,6 @@ use Rattle.automata.proofs.Reading.{read-refused, read-valid, head-in}
 use borrow.Author.Needs.{needs}
 use Rattle.automata.proofs.image.read_image.Statement.{statement}
 use Rattle.automata.proofs.image.read_image.Tie as tie
-use Rattle.automata.proofs.image.read_image.Reads as reads
-use Rattle.automata.proofs.image.read_image.Lts as lts
-use Rattle.automata.proofs.bytes.read2.Reads as read2-reads
-use Rattle.automata.proofs.bytes.read8.Reads as read8-reads
-use Rattle.automata.proofs.image.check_image.Reads as check-image-reads
-
-check-image-requires : tie.Need-check-image-requires
-check-image-requires c κs = search needs
 
 returns : tie.Need-returns
 returns c = search (read-refused, needs)
@@ -22,9 +14,6 @@ shared-slice-read-symbols c = search (head-in, needs)
 
 read2-requires : tie.Need-read2-requires
 read2-requires c κs = search (head-in, needs)
-
-cast-rows : tie.Need-cast-rows
-cast-rows c = search needs
 
 read8-requires : tie.Need-read8-requires
 read8-requires c κs = search (head-in, needs)
@@ -39,12 +28,12 @@ pub read-image-spec : {M : Type 1} → statement M
 read-image-spec =
     tie.close
     (tie.spec
-    check-image-requires
+    (λ c κs. search needs)
     returns
     shared-slice-read-states
     shared-slice-read-symbols
     read2-requires
-    cast-rows
+    (λ c. search needs)
     read8-requires
     read8-requires-2
     returns-2)

@@ -3,10 +3,6 @@ use Prim.Native.Nat.{_-_}
 use Rattle.automata.proofs.Checks.{RowsLeft, rows-none, row-fails, row-next, rows-end}
 use Rattle.automata.proofs.image.rows_hold.Statement.{statement}
 use Rattle.automata.proofs.image.rows_hold.Tie as tie
-use Rattle.automata.proofs.image.rows_hold.Reads as reads
-use Rattle.automata.proofs.image.rows_hold.Lts as lts
-use Rattle.automata.proofs.bytes.read2.Reads as read2-reads
-use Rattle.automata.proofs.image.row_holds.Reads as row-holds-reads
 
 abbrev Inv-loop : tie.InvT-loop
 Inv-loop image rows i₀ i = RowsLeft image rows i
@@ -14,23 +10,11 @@ Inv-loop image rows i₀ i = RowsLeft image rows i
 abbrev μ-loop : tie.MeasureT-loop
 μ-loop image rows i₀ i = rows - i
 
-read2-requires : tie.Need-read2-requires Inv-loop μ-loop
-read2-requires c κs = search needs
-
 loop-holds : tie.Need-loop-holds Inv-loop μ-loop
 loop-holds c = search (rows-none, needs)
 
-row-holds-requires : tie.Need-row-holds-requires Inv-loop μ-loop
-row-holds-requires c κs = search needs
-
 returns : tie.Need-returns Inv-loop μ-loop
 returns c = search (row-fails, needs)
-
-add-i : tie.Need-add-i Inv-loop μ-loop
-add-i c = search needs
-
-loop-less : tie.Need-loop-less Inv-loop μ-loop
-loop-less c = search needs
 
 loop-again : tie.Need-loop-again Inv-loop μ-loop
 loop-again c = search (row-next, needs)
@@ -44,11 +28,11 @@ rows-hold-spec =
     (tie.spec
     Inv-loop
     μ-loop
-    read2-requires
+    (λ c κs. search needs)
     loop-holds
-    row-holds-requires
+    (λ c κs. search needs)
     returns
-    add-i
-    loop-less
+    (λ c. search needs)
+    (λ c. search needs)
     loop-again
     returns-2)

@@ -4,9 +4,6 @@ use Rattle.automata.proofs.RowWalks.{one-stands}
 use Rattle.automata.proofs.PickWalks.{Picking, picking-starts, picking-next, all-have-picked, picking-ends}
 use Rattle.automata.proofs.picks.pick_rows.Statement.{statement}
 use Rattle.automata.proofs.picks.pick_rows.Tie as tie
-use Rattle.automata.proofs.picks.pick_rows.Reads as reads
-use Rattle.automata.proofs.picks.pick_rows.Lts as lts
-use Rattle.automata.proofs.picks.pick_row.Reads as pick-row-reads
 
 abbrev Inv-loop : tie.InvT-loop
 Inv-loop image start end set x picked₀ at₀ picked at = Picking image start end set x picked at
@@ -23,12 +20,6 @@ returns c = search (all-have-picked, needs)
 pick-row-requires : tie.Need-pick-row-requires Inv-loop μ-loop
 pick-row-requires c κs = search (one-stands, needs)
 
-add-at : tie.Need-add-at Inv-loop μ-loop
-add-at c = search needs
-
-loop-less : tie.Need-loop-less Inv-loop μ-loop
-loop-less c = search needs
-
 loop-again : tie.Need-loop-again Inv-loop μ-loop
 loop-again c = search (picking-next, needs)
 
@@ -44,7 +35,7 @@ pick-rows-spec =
     loop-holds
     returns
     pick-row-requires
-    add-at
-    loop-less
+    (λ c. search needs)
+    (λ c. search needs)
     loop-again
     returns-2)

@@ -4,8 +4,6 @@ use lib.ListN.{length}
 use Rattle.automata.proofs.WordTests.{SymbolsLeft, symbols-none, symbol-above, symbol-below, symbols-end}
 use Rattle.automata.proofs.word.symbols_below.Statement.{statement}
 use Rattle.automata.proofs.word.symbols_below.Tie as tie
-use Rattle.automata.proofs.word.symbols_below.Reads as reads
-use Rattle.automata.proofs.word.symbols_below.Lts as lts
 
 abbrev Inv-loop : tie.InvT-loop
 Inv-loop word symbols i₀ i = SymbolsLeft word symbols i
@@ -16,17 +14,8 @@ abbrev μ-loop : tie.MeasureT-loop
 loop-holds : tie.Need-loop-holds Inv-loop μ-loop
 loop-holds c = search (symbols-none, needs)
 
-shared-slice-read-if1 : tie.Need-shared-slice-read-if1 Inv-loop μ-loop
-shared-slice-read-if1 c = search needs
-
 returns : tie.Need-returns Inv-loop μ-loop
 returns c = search (symbol-above, needs)
-
-add-i : tie.Need-add-i Inv-loop μ-loop
-add-i c = search needs
-
-loop-less : tie.Need-loop-less Inv-loop μ-loop
-loop-less c = search needs
 
 loop-again : tie.Need-loop-again Inv-loop μ-loop
 loop-again c = search (symbol-below, needs)
@@ -41,9 +30,9 @@ symbols-below-spec =
     Inv-loop
     μ-loop
     loop-holds
-    shared-slice-read-if1
+    (λ c. search needs)
     returns
-    add-i
-    loop-less
+    (λ c. search needs)
+    (λ c. search needs)
     loop-again
     returns-2)

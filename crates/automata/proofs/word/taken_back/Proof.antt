@@ -2,9 +2,6 @@ use borrow.Author.Needs.{needs}
 use Rattle.automata.proofs.WordTests.{TakenFrom, taken-none, last-known, taken-more, taken-end}
 use Rattle.automata.proofs.word.taken_back.Statement.{statement}
 use Rattle.automata.proofs.word.taken_back.Tie as tie
-use Rattle.automata.proofs.word.taken_back.Reads as reads
-use Rattle.automata.proofs.word.taken_back.Lts as lts
-use Rattle.automata.proofs.backward.backward.Reads as backward-reads
 
 abbrev Inv-loop : tie.InvT-loop
 Inv-loop image word x case₀ i₀ case i = TakenFrom image word x i case
@@ -15,17 +12,8 @@ abbrev μ-loop : tie.MeasureT-loop
 loop-holds : tie.Need-loop-holds Inv-loop μ-loop
 loop-holds c = search (taken-none, needs)
 
-sub-i : tie.Need-sub-i Inv-loop μ-loop
-sub-i c = search needs
-
-shared-slice-read-t9 : tie.Need-shared-slice-read-t9 Inv-loop μ-loop
-shared-slice-read-t9 c = search needs
-
 backward-requires : tie.Need-backward-requires Inv-loop μ-loop
 backward-requires c κs = search (last-known, needs)
-
-loop-less : tie.Need-loop-less Inv-loop μ-loop
-loop-less c = search needs
 
 loop-again : tie.Need-loop-again Inv-loop μ-loop
 loop-again c = search (taken-more, needs)
@@ -40,9 +28,9 @@ taken-back-spec =
     Inv-loop
     μ-loop
     loop-holds
-    sub-i
-    shared-slice-read-t9
+    (λ c. search needs)
+    (λ c. search needs)
     backward-requires
-    loop-less
+    (λ c. search needs)
     loop-again
     returns)

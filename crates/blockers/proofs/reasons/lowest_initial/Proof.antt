@@ -2,13 +2,6 @@ use Rattle.blockers.proofs.WhyBlocked.{start-inside, start-lacking, sta
 use borrow.Author.Needs.{needs}
 use Rattle.blockers.proofs.reasons.lowest_initial.Statement.{statement}
 use Rattle.blockers.proofs.reasons.lowest_initial.Tie as tie
-use Rattle.blockers.proofs.reasons.lowest_initial.Reads as reads
-use Rattle.blockers.proofs.reasons.lowest_initial.Lts as lts
-use Rattle.masks.proofs.lowest_absent.Reads as lowest-absent-reads
-use Rattle.masks.proofs.subset.Reads as subset-reads
-
-subset-requires : tie.Need-subset-requires
-subset-requires c κs = search needs
 
 returns : tie.Need-returns
 returns c = search (start-inside, needs)
@@ -20,4 +13,4 @@ returns-2 : tie.Need-returns-2
 returns-2 c = search (start-absent, needs)
 
 pub lowest-initial-spec : {M : Type 1} → statement M
-lowest-initial-spec = tie.close (tie.spec subset-requires returns lowest-absent-requires returns-2)
+lowest-initial-spec = tie.close (tie.spec (λ c κs. search needs) returns lowest-absent-requires returns-2)

@@ -2,8 +2,6 @@ use borrow.Author.Needs.{needs}
 use Rattle.checker.proofs.Checking.{answer-above, held-above, level-above, pending-above, blocks-above, accepted-above, none-above}
 use Rattle.checker.proofs.checks.broken.Statement.{statement}
 use Rattle.checker.proofs.checks.broken.Tie as tie
-use Rattle.checker.proofs.checks.broken.Reads as reads
-use Rattle.checker.proofs.checks.broken.Lts as lts
 
 returns : tie.Need-returns
 returns c = search (answer-above, needs)

@@ -3,9 +3,6 @@ use Rattle.checker.proofs.Checking.{odd-levels, odd-entered, odd-word, 
 use Rattle.checker.proofs.Checking.{no-edition, first-edition, second-edition}
 use Rattle.checker.proofs.checks.check_terms.Statement.{statement}
 use Rattle.checker.proofs.checks.check_terms.Tie as tie
-use Rattle.checker.proofs.checks.check_terms.Reads as reads
-use Rattle.checker.proofs.checks.check_terms.Lts as lts
-use Rattle.checker.proofs.checks.check_way.Reads as check-way-reads
 
 returns : tie.Need-returns
 returns c = search (odd-levels, needs)
@@ -25,14 +22,8 @@ returns-5 c = search (over-word, needs)
 returns-6 : tie.Need-returns-6
 returns-6 c = search (over-hints, needs)
 
-check-way-requires : tie.Need-check-way-requires
-check-way-requires c κs = search needs
-
 returns-7 : tie.Need-returns-7
 returns-7 c = search (first-edition, needs)
-
-check-way-requires-2 : tie.Need-check-way-requires-2
-check-way-requires-2 c κs = search needs
 
 returns-8 : tie.Need-returns-8
 returns-8 c = search (second-edition, needs)
@@ -50,8 +41,8 @@ check-terms-spec =
     returns-4
     returns-5
     returns-6
-    check-way-requires
-    check-way-requires-2
+    (λ c κs. search needs)
+    (λ c κs. search needs)
     returns-7
     returns-8
     returns-9)

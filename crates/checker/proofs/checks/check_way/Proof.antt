@@ -2,8 +2,6 @@ use borrow.Author.Needs.{needs}
 use Rattle.checker.proofs.Checking.{first-way, second-way, no-way}
 use Rattle.checker.proofs.checks.check_way.Statement.{statement}
 use Rattle.checker.proofs.checks.check_way.Tie as tie
-use Rattle.checker.proofs.checks.check_way.Reads as reads
-use Rattle.checker.proofs.checks.check_way.Lts as lts
 
 returns : tie.Need-returns
 returns c = search (first-way, needs)

@@ -2,18 +2,6 @@ use Rattle.checker.proofs.Blocking.{after-none, after-some}
 use borrow.Author.Needs.{needs}
 use Rattle.checker.proofs.steps.pend_after.Statement.{statement}
 use Rattle.checker.proofs.steps.pend_after.Tie as tie
-use Rattle.checker.proofs.steps.pend_after.Reads as reads
-use Rattle.checker.proofs.steps.pend_after.Lts as lts
-use Rattle.checker.proofs.steps.pend_final.Reads as pend-final-reads
-
-pend-final-requires : tie.Need-pend-final-requires
-pend-final-requires c κs = search needs
-
-same-length : tie.Need-same-length
-same-length c = search needs
-
-same-length-2 : tie.Need-same-length-2
-same-length-2 c = search needs
 
 returns : tie.Need-returns
 returns c = search (after-none, needs)
@@ -23,4 +11,4 @@ returns-2 c = search (after-some, needs)
 
 pub pend-after-spec : {M : Type 1} → statement M
 pend-after-spec =
-    tie.close (tie.spec pend-final-requires same-length same-length-2 returns returns-2)
+    tie.close (tie.spec (λ c κs. search needs) (λ c. search needs) (λ c. search needs) returns returns-2)

@@ -2,8 +2,6 @@ use borrow.Author.Needs.{needs}
 use Rattle.checker.proofs.Closing.{answer-empty, answer-works}
 use Rattle.checker.proofs.steps.working_unless.Statement.{statement}
 use Rattle.checker.proofs.steps.working_unless.Tie as tie
-use Rattle.checker.proofs.steps.working_unless.Reads as reads
-use Rattle.checker.proofs.steps.working_unless.Lts as lts
 
 returns : tie.Need-returns
 returns c = search (answer-empty, needs)

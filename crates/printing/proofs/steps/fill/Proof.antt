@@ -2,9 +2,6 @@ use borrow.Author.Needs.{needs}
 use Rattle.printing.proofs.SetsBehind.{Filling, filling-starts, filling-place, filling-known, filling-next, filling-long, filled-back, filled-table}
 use Rattle.printing.proofs.steps.fill.Statement.{statement}
 use Rattle.printing.proofs.steps.fill.Tie as tie
-use Rattle.printing.proofs.steps.fill.Reads as reads
-use Rattle.printing.proofs.steps.fill.Lts as lts
-use Rattle.automata.proofs.backward.backward.Reads as backward-reads
 
 abbrev Inv-loop : tie.InvT-loop
 Inv-loop image word z table₀ case₀ i₀ table case i = Filling image word z table₀ table case i
@@ -15,23 +12,11 @@ abbrev μ-loop : tie.MeasureT-loop
 loop-holds : tie.Need-loop-holds Inv-loop μ-loop
 loop-holds c = search (filling-starts, needs)
 
-sub-i : tie.Need-sub-i Inv-loop μ-loop
-sub-i c = search needs
-
-mul-table : tie.Need-mul-table Inv-loop μ-loop
-mul-table c = search needs
-
 slice-write-table : tie.Need-slice-write-table Inv-loop μ-loop
 slice-write-table c = search (filling-place, needs)
 
-shared-slice-read-t12 : tie.Need-shared-slice-read-t12 Inv-loop μ-loop
-shared-slice-read-t12 c = search needs
-
 backward-requires : tie.Need-backward-requires Inv-loop μ-loop
 backward-requires c κs = search (filling-known, needs)
-
-loop-less : tie.Need-loop-less Inv-loop μ-loop
-loop-less c = search needs
 
 loop-again : tie.Need-loop-again Inv-loop μ-loop
 loop-again c = search (filling-next, needs)
@@ -49,12 +34,12 @@ fill-spec =
     Inv-loop
     μ-loop
     loop-holds
-    sub-i
-    mul-table
+    (λ c. search needs)
+    (λ c. search needs)
     slice-write-table
-    shared-slice-read-t12
+    (λ c. search needs)
     backward-requires
-    loop-less
+    (λ c. search needs)
     loop-again
     same-length
     returns)

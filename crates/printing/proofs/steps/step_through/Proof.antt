@@ -5,9 +5,6 @@ use Rattle.automata.proofs.WordTests.{symbol-known}
 use Rattle.printing.proofs.Stepping.{Stepping, stepping-starts, stepping-place, stepping-next, stepping-long, stepped-last, stepped-table}
 use Rattle.printing.proofs.steps.step_through.Statement.{statement}
 use Rattle.printing.proofs.steps.step_through.Tie as tie
-use Rattle.printing.proofs.steps.step_through.Reads as reads
-use Rattle.printing.proofs.steps.step_through.Lts as lts
-use Rattle.automata.proofs.picks.reached.Reads as reached-reads
 
 abbrev Inv-loop : tie.InvT-loop
 Inv-loop image word x table₀ case₀ i₀ table case i = Stepping image word x table₀ table case i
@@ -18,29 +15,14 @@ abbrev μ-loop : tie.MeasureT-loop
 loop-holds : tie.Need-loop-holds Inv-loop μ-loop
 loop-holds c = search (stepping-starts, needs)
 
-shared-slice-read-t11 : tie.Need-shared-slice-read-t11 Inv-loop μ-loop
-shared-slice-read-t11 c = search needs
-
-mul-reached : tie.Need-mul-reached Inv-loop μ-loop
-mul-reached c = search needs
-
 slice-read-reached : tie.Need-slice-read-reached Inv-loop μ-loop
 slice-read-reached c = search (stepping-place, needs)
 
 reached-requires : tie.Need-reached-requires Inv-loop μ-loop
 reached-requires c κs = search (symbol-known, needs)
 
-mul-table : tie.Need-mul-table Inv-loop μ-loop
-mul-table c = search needs
-
 slice-write-table : tie.Need-slice-write-table Inv-loop μ-loop
 slice-write-table c = search (stepping-place, needs)
-
-add-i : tie.Need-add-i Inv-loop μ-loop
-add-i c = search needs
-
-loop-less : tie.Need-loop-less Inv-loop μ-loop
-loop-less c = search needs
 
 loop-again : tie.Need-loop-again Inv-loop μ-loop
 loop-again c = search (stepping-next, needs)
@@ -58,14 +40,14 @@ step-through-spec =
     Inv-loop
     μ-loop
     loop-holds
-    shared-slice-read-t11
-    mul-reached
+    (λ c. search needs)
+    (λ c. search needs)
     slice-read-reached
     reached-requires
-    mul-table
+    (λ c. search needs)
     slice-write-table
-    add-i
-    loop-less
+    (λ c. search needs)
+    (λ c. search needs)
     loop-again
     same-length
     returns)
