@@ -21,7 +21,7 @@ use Rattle.automata.specs.Acceptance.{Reaches, Steps, stays, steps}
 use Rattle.automata.specs.Picks.{
   fits,
   picks,
-  caseOf,
+  pickedCase,
   adds,
   unionBelow,
   reached,
@@ -95,13 +95,13 @@ pub picks-same : {rows others : List Row} {set p q : ℕ} → picks others set q
 picks-same e r = record { row = r .row; picked = e ∙ r .picked; to = r .to }
 
 adds-members : (rows : List Row) (set X q p : ℕ) → Member p (adds rows set X q) ↔ (Member q X × PicksTo rows set p q)
-unfolding adds caseOf choose
+unfolding adds pickedCase choose
 adds-members rows set X q p = (
   λ h. at (member q X) (λ t. member-means q X .0 t) (picks rows set q) refl h,
-  λ h. subst (Member p) (sym (choose-true (caseOf (picks rows set q)) 0 (is-true (member q X) (member-means q X .1 (h .0))) ∙ ap caseOf (h .1 .picked))) (h .1 .to),
+  λ h. subst (Member p) (sym (choose-true (pickedCase (picks rows set q)) 0 (is-true (member q X) (member-means q X .1 (h .0))) ∙ ap pickedCase (h .1 .picked))) (h .1 .to),
 )
   where
-    at : (b : Bool) → (T b → Member q X) → (found : Option Row) → picks rows set q ≡ found → Member p (choose b (caseOf found) 0)
+    at : (b : Bool) → (T b → Member q X) → (found : Option Row) → picks rows set q ≡ found → Member p (choose b (pickedCase found) 0)
         → Member q X × PicksTo rows set p q
     at true f none e k = absurd (empty-members p k)
     at true f (some row) e k = (f tt, record { row = row; picked = e; to = k })

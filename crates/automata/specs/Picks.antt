@@ -22,13 +22,13 @@ unfoldable pub picks : List Row → ℕ → ℕ → Option Row
 picks rows set q = firstOf (fits set q) rows
 
 -- the case of the row that was picked; no row has no states
-unfoldable pub caseOf : Option Row → ℕ
-caseOf none = 0
-caseOf (some row) = row .case
+unfoldable pub pickedCase : Option Row → ℕ
+pickedCase none = 0
+pickedCase (some row) = row .case
 
 -- what state q adds to the case that X reaches
 unfoldable pub adds : List Row → ℕ → ℕ → ℕ → ℕ
-adds rows set X q = choose (member q X) (caseOf (picks rows set q)) 0
+adds rows set X q = choose (member q X) (pickedCase (picks rows set q)) 0
 
 -- the union of the sets that f gives to the numbers below n
 unfoldable pub unionBelow : ℕ → (ℕ → ℕ) → ℕ

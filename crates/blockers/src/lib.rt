@@ -10,7 +10,8 @@ ghost use lib.Dec.{leb, eqb};
 ghost use Rattle.lists.specs.Tests.{_and_, _or_, neg};
 ghost use Rattle.lists.specs.Lists.{any};
 ghost use Rattle.machine.specs.Machine.{covers as coversCase};
-ghost use Rattle.machine.specs.Lent.{roomOf, EvenRoom, blockerOf};
+ghost use Rattle.machine.specs.Lent.{EvenRoom, blockerOf};
+ghost use Rattle.machine.specs.Lending.{roomNow, roomBefore, roomAfter};
 ghost use Rattle.blockers.specs.Room.{HoldsRoom, Put, ClosedUp, Cleared, Enters, RisesAt, Frames};
 
 // A level's number.
@@ -111,8 +112,8 @@ fn put(
     level: Level,
     step: u64,
 )
-    requires { ⌜ HoldsRoom (place + 1) (roomOf (now masks) (now levels) (now entered)) ⌝ }
-    ensures { λ _. ⌜ Put (record { mask = mask; level = level .0; entered = step }) place (roomOf (now (masks .entry)) (now (levels .entry)) (now (entered .entry))) (roomOf (now (masks .exit)) (now (levels .exit)) (now (entered .exit))) ⌝ }
+    requires { ⌜ HoldsRoom (place + 1) (roomNow masks levels entered) ⌝ }
+    ensures { λ _. ⌜ Put (record { mask = mask; level = level .0; entered = step }) place (roomBefore masks levels entered) (roomAfter masks levels entered) ⌝ }
 {
     masks[place] = mask;
     levels[place] = level.0;
@@ -120,9 +121,15 @@ fn put(
 }
 
 // The places from `from` to `to` hold 0.
-pub fn clear(masks: &mut [u64], levels: &mut [u32], entered: &mut [u64], from: usize, to: usize)
-    requires { ⌜ HoldsRoom to (roomOf (now masks) (now levels) (now entered)) ⌝ }
-    ensures { λ r. ⌜ Cleared from to (roomOf (now (masks .entry)) (now (levels .entry)) (now (entered .entry))) (roomOf (now (masks .exit)) (now (levels .exit)) (now (entered .exit))) ⌝ }
+pub fn clear_between(
+    masks: &mut [u64],
+    levels: &mut [u32],
+    entered: &mut [u64],
+    from: usize,
+    to: usize,
+)
+    requires { ⌜ HoldsRoom to (roomNow masks levels entered) ⌝ }
+    ensures { λ r. ⌜ Cleared from to (roomBefore masks levels entered) (roomAfter masks levels entered) ⌝ }
 {
     let mut i = from;
     while i < to {
@@ -144,8 +151,8 @@ fn close_up(
     mask: u64,
     level: Level,
 ) -> usize
-    requires { ⌜ (start ≤ from) × (from ≤ to) × HoldsRoom to (roomOf (now masks) (now levels) (now entered)) ⌝ }
-    ensures { λ r. ⌜ ClosedUp (blockerOf mask (level .0)) start from to r (roomOf (now (masks .entry)) (now (levels .entry)) (now (entered .entry))) (roomOf (now (masks .exit)) (now (levels .exit)) (now (entered .exit))) ⌝ }
+    requires { ⌜ (start ≤ from) × (from ≤ to) × HoldsRoom to (roomNow masks levels entered) ⌝ }
+    ensures { λ r. ⌜ ClosedUp (blockerOf mask (level .0)) start from to r (roomBefore masks levels entered) (roomAfter masks levels entered) ⌝ }
 {
     let mut kept = start;
     let mut i = from;
@@ -166,7 +173,7 @@ fn close_up(
         kept += 1;
         i += 1;
     }
-    clear(masks, levels, entered, kept, to);
+    clear_between(masks, levels, entered, kept, to);
     kept
 }
 
@@ -187,8 +194,8 @@ pub fn enter(
     level: Level,
     step: u64,
 ) -> Entered
-    requires { ⌜ HoldsRoom held (roomOf (now masks) (now levels) (now entered)) × EvenRoom (roomOf (now masks) (now levels) (now entered)) ⌝ }
-    ensures { λ r. ⌜ Enters held (record { mask = mask; level = level .0; entered = step }) (roomOf (now (masks .entry)) (now (levels .entry)) (now (entered .entry))) r (roomOf (now (masks .exit)) (now (levels .exit)) (now (entered .exit))) ⌝ }
+    requires { ⌜ HoldsRoom held (roomNow masks levels entered) × EvenRoom (roomNow masks levels entered) ⌝ }
+    ensures { λ r. ⌜ Enters held (record { mask = mask; level = level .0; entered = step }) (roomBefore masks levels entered) r (roomAfter masks levels entered) ⌝ }
 {
     let end = close_up(masks, levels, entered, 0, 0, held, mask, level);
     if masks.len() <= end {
@@ -212,8 +219,8 @@ pub fn rise(
     held: usize,
     place: usize,
 ) -> Kept
-    requires { ⌜ HoldsRoom held (roomOf (now masks) (now levels) (now entered)) × (place < held) × (getD (now levels) place 0 < 4294967295) ⌝ }
-    ensures { λ r. ⌜ RisesAt held place (roomOf (now (masks .entry)) (now (levels .entry)) (now (entered .entry))) (r .held) (r .place) (roomOf (now (masks .exit)) (now (levels .exit)) (now (entered .exit))) ⌝ }
+    requires { ⌜ HoldsRoom held (roomNow masks levels entered) × (place < held) × (getD (now levels) place 0 < 4294967295) ⌝ }
+    ensures { λ r. ⌜ RisesAt held place (roomBefore masks levels entered) (r .held) (r .place) (roomAfter masks levels entered) ⌝ }
 {
     let mask = masks[place];
     let level = Level(levels[place]).above();
@@ -244,8 +251,8 @@ pub fn frame(
     held: usize,
     level: Level,
 ) -> usize
-    requires { ⌜ HoldsRoom held (roomOf (now masks) (now levels) (now entered)) ⌝ }
-    ensures { λ r. ⌜ Frames held (level .0) (roomOf (now (masks .entry)) (now (levels .entry)) (now (entered .entry))) r (roomOf (now (masks .exit)) (now (levels .exit)) (now (entered .exit))) ⌝ }
+    requires { ⌜ HoldsRoom held (roomNow masks levels entered) ⌝ }
+    ensures { λ r. ⌜ Frames held (level .0) (roomBefore masks levels entered) r (roomAfter masks levels entered) ⌝ }
 {
     close_up(
         masks,

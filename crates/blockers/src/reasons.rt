@@ -11,7 +11,8 @@ ghost use lib.ListN.{length};
 ghost use Rattle.lists.specs.Lists.{any};
 ghost use Rattle.masks.specs.Sets.{lowestAbsent};
 ghost use Rattle.machine.specs.Machine.{covers as coversCase};
-ghost use Rattle.machine.specs.Lent.{unstampedRoom, blockerAt, blockersFrom, blockersIn};
+ghost use Rattle.machine.specs.Lent.{blockerAt, blockersFrom};
+ghost use Rattle.machine.specs.Lending.{unstampedBefore, blockersBefore};
 ghost use Rattle.machine.specs.Why.{firstCovering, absentReason, isReason, why as whyBlocked};
 ghost use Rattle.blockers.specs.Room.{Holds};
 ghost use Rattle.blockers.specs.Answers.{reasonOf, Skips};
@@ -39,7 +40,7 @@ impl Reason {
 // Whether the blocker at a place covers the case.
 pub fn covers_at(masks: &[u64], levels: &[u32], place: usize, least: Level, case: u64) -> bool
     requires { ⌜ (place < length (now masks)) × (place < length (now levels)) ⌝ }
-    ensures { λ r. ⌜ r ≡ coversCase (least .0) case (blockerAt (unstampedRoom (now (masks .entry)) (now (levels .entry))) place) ⌝ }
+    ensures { λ r. ⌜ r ≡ coversCase (least .0) case (blockerAt (unstampedBefore masks levels) place) ⌝ }
 {
     covers(masks[place], Level(levels[place]), least, case)
 }
@@ -57,7 +58,7 @@ pub fn count_in(masks: &[u64], levels: &[u32]) -> usize
 // Whether one of the four blockers from `at` on covers the case.
 fn four_cover(masks: &[u64], levels: &[u32], at: usize, level: Level, case: u64) -> bool
     requires { ⌜ Holds (at + 4) (now masks) (now levels) ⌝ }
-    ensures { λ r. ⌜ r ≡ any (coversCase (level .0) case) (blockersFrom (unstampedRoom (now (masks .entry)) (now (levels .entry))) 4 at) ⌝ }
+    ensures { λ r. ⌜ r ≡ any (coversCase (level .0) case) (blockersFrom (unstampedBefore masks levels) 4 at) ⌝ }
 {
     let first = covers_at(masks, levels, at, level, case);
     let second = covers_at(masks, levels, at + 1, level, case);
@@ -111,7 +112,7 @@ pub fn after(masks: &[u64], levels: &[u32], place: usize, level: Level, case: u6
 // The blocker at the place if it covers the case, or nothing.
 pub fn reason_at(masks: &[u64], levels: &[u32], place: usize, level: Level, case: u64) -> Reason
     requires { ⌜ (place < length (now masks)) × (place < length (now levels)) ⌝ }
-    ensures { λ r. ⌜ reasonOf r ≡ firstCovering (level .0) case place (blockerAt (unstampedRoom (now (masks .entry)) (now (levels .entry))) place ∷ []) ⌝ }
+    ensures { λ r. ⌜ reasonOf r ≡ firstCovering (level .0) case place (blockerAt (unstampedBefore masks levels) place ∷ []) ⌝ }
 {
     if covers_at(masks, levels, place, level, case) {
         return Reason::ByBlocker(place, Level(levels[place]));
@@ -121,7 +122,7 @@ pub fn reason_at(masks: &[u64], levels: &[u32], place: usize, level: Level, case
 
 // The first blocker that covers the case, or nothing.
 fn first_covering(masks: &[u64], levels: &[u32], level: Level, case: u64) -> Reason
-    ensures { λ r. ⌜ reasonOf r ≡ firstCovering (level .0) case 0 (blockersIn (now (masks .entry)) (now (levels .entry))) ⌝ }
+    ensures { λ r. ⌜ reasonOf r ≡ firstCovering (level .0) case 0 (blockersBefore masks levels) ⌝ }
 {
     let count = count_in(masks, levels);
     let mut i = skip_first(masks, levels, level, case);
@@ -147,7 +148,7 @@ pub fn lowest_initial(initial: u64, case: u64) -> Reason
 
 // Why the case is blocked at the level, for every input.
 pub fn why(initial: u64, masks: &[u64], levels: &[u32], level: Level, case: u64) -> Reason
-    ensures { λ r. ⌜ reasonOf r ≡ whyBlocked initial (blockersIn (now (masks .entry)) (now (levels .entry))) (level .0) case ⌝ }
+    ensures { λ r. ⌜ reasonOf r ≡ whyBlocked initial (blockersBefore masks levels) (level .0) case ⌝ }
 {
     if level.equals(Level(0)) {
         return lowest_initial(initial, case);

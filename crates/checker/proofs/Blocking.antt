@@ -1,6 +1,6 @@
 -- The ways through a block: the set finds no place, or it enters and the pending case leaves. Assumes nothing.
 use Prim.Native.Nat.{ℕ, zero, suc, _+_, _-_, _≤_, _<_, max}
-use mathlib.Core.Path.{_≡_, refl, sym, ap, subst, _∙_}
+use mathlib.Core.Path.{_≡_, refl, sym, ap, ap₂, subst, _∙_}
 use mathlib.Core.List.{List, [], _∷_, append-assoc}
 use native.Mathlib.Numerals.{add-one}
 use native.Mathlib.Omega.{arith}
@@ -11,12 +11,12 @@ use Rattle.automata.specs.declared.image.Head.{Head}
 use Rattle.automata.specs.Answers.{ReadAs}
 use Rattle.machine.specs.Machine.{Blocker, Pending, Configuration, hintAt, chosenFrom, chosen, finalPending, pendingAfter, blockStep, blockersLack, judge}
 use Rattle.machine.specs.Machine as Machine
-use Rattle.machine.specs.Lent.{BlockerRoom, roomOf, unstampedRoom, blockersFrom, blockersIn, pendingFirst, columnBack, caseOf, symbolOf, placed}
-use Rattle.machine.specs.Runs.{systemOf, numberOf, casesIn, symbolsIn, tablesAfter}
+use Rattle.machine.specs.Lent.{BlockerRoom, roomOf, WordRoom, unstampedRoom, blockersFrom, blockersIn, pendingFirst, withPending, withWord}
+use Rattle.machine.specs.Runs.{Stage, systemOf, endNumber, numberOf, recordOf, wordIn, wordLeft, tablesAfter}
 use Rattle.machine.specs.Hitting.{growthOf}
-use Rattle.machine.specs.Records.{Stage, configurationOf, pendingOf, recordOf, after}
+use Rattle.machine.specs.Records.{configurationOf, after}
 use Rattle.machine.proofs.Passing.{chosen-is, chosen-hinted}
-use Rattle.machine.proofs.LentTables.{column-back-length, pending-length, read-back-pending, placed-placed, placed-cases, placed-symbols}
+use Rattle.machine.proofs.LentTables.{pending-length, read-back-placed, pending-again, own-pending}
 use Rattle.blockers.specs.Room.{Holds, HoldsRoom, tableOf, entering, Enters}
 use Rattle.blockers.specs.declared.Level.{Level}
 use Rattle.blockers.specs.declared.Entered.{Entered}
@@ -28,30 +28,29 @@ use Rattle.blockers.proofs.Placing.{even-holds, placed-table, placed-long}
 use Rattle.blockers.proofs.Changes.{held-room, held-count, held-fits, held-placed, full-room, full-room-stays}
 use Rattle.choices.specs.Found.{choiceOf}
 use Rattle.choices.specs.declared.Choice.{Choice}
-use Rattle.pending.specs.Room.{Holds as HoldsWord, Placed as PlacedWord}
+use Rattle.pending.specs.Room.{Holds as HoldsWord}
 use Rattle.checker.specs.declared.record.Run.{Run}
 use Rattle.checker.specs.Stage.{stage, choicesOf, madeBy, blockOf, Ready, leftOf, countedOf, blockedOf, Leaves, Unpends, Pends, Countable}
 use Rattle.checker.proofs.Stages.{ready-holds, stopped-is}
 
 -- what stays pending, or F where nothing does
-pub after-none : (initial finals : ℕ) (cases symbols cases′ symbols′ : List ℕ) (table : List Blocker) (level rest count : ℕ) → rest ≡ 0
-    → Pends 0 (finalPending initial (finals ∷ []) table level) count cases symbols cases′ symbols′
-    → Pends rest (pendingAfter initial (finals ∷ []) table level (pendingFirst cases symbols rest)) count cases symbols cases′ symbols′
+pub after-none : (initial finals : ℕ) (word word′ : WordRoom) (table : List Blocker) (level rest count : ℕ) → rest ≡ 0
+    → Pends 0 (finalPending initial (finals ∷ []) table level) count word word′
+    → Pends rest (pendingAfter initial (finals ∷ []) table level (pendingFirst word rest)) count word word′
 unfolding pendingAfter pendingFirst
-after-none initial finals cases symbols cases′ symbols′ table level rest count e p = rw e p
+after-none initial finals word word′ table level rest count e p = rw e p
 
-pub after-some : (initial finals : ℕ) (cases symbols : List ℕ) (table : List Blocker) (level rest : ℕ) → (rest ≡ 0 → ⊥) → HoldsWord (rest + 1) cases symbols
-    → Pends rest (pendingAfter initial (finals ∷ []) table level (pendingFirst cases symbols rest)) rest cases symbols cases symbols
-after-some initial finals cases symbols table level zero n holds = absurd (n refl)
-after-some initial finals cases symbols table level (suc rest) n holds =
-    subst (λ (pending : List Pending). Pends (suc rest) pending (suc rest) cases symbols cases symbols) (sym stays)
+pub after-some : (initial finals : ℕ) (word : WordRoom) (table : List Blocker) (level rest : ℕ) → (rest ≡ 0 → ⊥) → HoldsWord (rest + 1) word
+    → Pends rest (pendingAfter initial (finals ∷ []) table level (pendingFirst word rest)) rest word word
+after-some initial finals word table level zero n holds = absurd (n refl)
+after-some initial finals word table level (suc rest) n holds =
+    subst (λ (pending : List Pending). Pends (suc rest) pending (suc rest) word word) (sym stays)
     (record {
-      counted = sym (pending-length cases symbols (suc rest));
-      new-cases = sym (placed-cases cases symbols (suc rest) (omega (arith, holds .in-cases)));
-      new-symbols = sym (placed-symbols cases symbols (suc rest) (omega (arith, holds .in-symbols)));
+      counted = sym (pending-length word (suc rest));
+      word-is = sym (own-pending word (suc rest) (omega (arith, holds .in-cases)) (omega (arith, holds .in-symbols)));
     })
   where
-    stays : pendingAfter initial (finals ∷ []) table level (pendingFirst cases symbols (suc rest)) ≡ pendingFirst cases symbols (suc rest)
+    stays : pendingAfter initial (finals ∷ []) table level (pendingFirst word (suc rest)) ≡ pendingFirst word (suc rest)
     stays = unfold pendingAfter pendingFirst in refl
 
 -- the counts that grow by one still fit
@@ -77,48 +76,33 @@ pub blocked-is : (run counted : Run) (held pending hinted : ℕ) → counted ≡
     ≡ blockedOf run held pending hinted
 blocked-is run counted held pending hinted e = rw e
 
--- pending cases that were put into the tables are read from there
-put-read : (before : ℕ) (pending : List Pending) (cases symbols cases′ symbols′ : List ℕ) → PlacedWord before pending cases symbols cases′ symbols′
-    → pendingFirst cases′ symbols′ (length pending) ≡ pending
-unfolding placed
-put-read before pending cases symbols cases′ symbols′ put =
-    rw (put .new-cases, put .new-symbols, append-assoc, append-assoc)
-    (read-back-pending pending _ _)
-
 -- the lowest pending case leaves, and then the cases above it or F stand in the tables
-module _ (initial finals : ℕ) (masks levels : List ℕ) (level held hinted count : ℕ) (run : Run) (cases symbols cases₁ symbols₁ cases′ symbols′ : List ℕ)
-    (holds : Holds held masks levels) (popped : PlacedWord (run .pending) (pendingFirst cases symbols (run .pending - 1)) cases symbols cases₁ symbols₁)
-    (pends : Pends (run .pending - 1) (pendingAfter initial (finals ∷ []) (blockersIn (take held masks) (take held levels)) level (pendingFirst cases₁ symbols₁ (run .pending - 1)))
-    count cases₁ symbols₁ cases′ symbols′) where
-  same-rest : pendingFirst cases₁ symbols₁ (run .pending - 1) ≡ pendingFirst cases symbols (run .pending - 1)
-  same-rest =
-      ap (pendingFirst cases₁ symbols₁) (sym (pending-length cases symbols (run .pending - 1)))
-      ∙ put-read (run .pending) (pendingFirst cases symbols (run .pending - 1)) cases symbols cases₁ symbols₁ popped
+module _ (initial finals : ℕ) (masks levels : List ℕ) (level held hinted count : ℕ) (run : Run) (word word₁ word′ : WordRoom) (holds : Holds held masks levels)
+    (popped : word₁ ≡ withPending (run .pending) (pendingFirst word (run .pending - 1)) word)
+    (pends : Pends (run .pending - 1) (pendingAfter initial (finals ∷ []) (blockersIn (take held masks) (take held levels)) level (pendingFirst word₁ (run .pending - 1)))
+    count word₁ word′) where
+  rest : List Pending
+  rest = pendingFirst word (run .pending - 1)
 
-  both : (field : Pending → ℕ) (new before after between : List ℕ) → between ≡ placed (run .pending) (columnBack field (pendingFirst cases symbols (run .pending - 1))) before
-      → after ≡ placed (run .pending - 1) new between → after ≡ placed (run .pending) new before
-  both field new before after between e q =
-      let shorter : length (columnBack field (pendingFirst cases symbols (run .pending - 1))) ≤ run .pending - 1
-      = omega (arith, column-back-length field (pendingFirst cases symbols (run .pending - 1)), pending-length cases symbols (run .pending - 1)) in
-      let most : max (run .pending) (run .pending - 1) ≡ run .pending = omega arith in
-      q
-      ∙ ap (placed (run .pending - 1) new) e
-      ∙ placed-placed (run .pending) (run .pending - 1) (columnBack field (pendingFirst cases symbols (run .pending - 1))) new before shorter
-      ∙ ap (λ (k : ℕ). placed k new before) most
+  same-rest : pendingFirst word₁ (run .pending - 1) ≡ pendingFirst word (run .pending - 1)
+  unfolding rest
+  same-rest =
+      ap₂ pendingFirst popped (sym (pending-length word (run .pending - 1))) ∙ read-back-placed rest (run .pending) word
 
   pub unpend-is : (r : Run) → r ≡ blockedOf run held count hinted
-      → Unpends run held hinted (pendingAfter initial (finals ∷ []) (blockersFrom (unstampedRoom masks levels) held 0) level (pendingFirst cases symbols (run .pending - 1)))
-      r cases symbols cases′ symbols′
+      → Unpends run held hinted (pendingAfter initial (finals ∷ []) (blockersFrom (unstampedRoom masks levels) held 0) level (pendingFirst word (run .pending - 1)))
+      word r word′
+  unfolding rest
   unpend-is r e =
       let pends′ = rw (same-rest, part-unstamped holds) at pends in
       record {
         record-is = e ∙ ap (λ (k : ℕ). blockedOf run held k hinted) (pends′ .counted);
-        cases-are = both caseOf _ cases cases′ cases₁ (popped .new-cases) (pends′ .new-cases);
-        symbols-are = both symbolOf _ symbols symbols′ symbols₁ (popped .new-symbols) (pends′ .new-symbols);
+        word-is = pends′ .word-is ∙ ap (withPending (run .pending - 1) _) popped
+            ∙ pending-again (run .pending) (run .pending - 1) rest _ [] word (pending-length word (run .pending - 1)) (omega arith);
       }
 
 -- the chosen set enters or finds no place
-module _ (initial finals : ℕ) {room : BlockerRoom} {cases symbols : List ℕ} {run : Run} (ready : Ready (stage room cases symbols run)) (below : ℕ) (choice : Choice)
+module _ (initial finals : ℕ) {room : BlockerRoom} {word : WordRoom} {run : Run} (ready : Ready (stage room word run)) (below : ℕ) (choice : Choice)
     {above : Level} (up : above .0 ≡ below + 1) {answer : Entered} {room′ : BlockerRoom}
     (enters : Enters (run .held) (record { mask = choice .mask; level = above .0; entered = run .steps + 1 }) room answer room′) where
   Y : Blocker
@@ -128,14 +112,14 @@ module _ (initial finals : ℕ) {room : BlockerRoom} {cases symbols : List ℕ} 
   unfolding Y
   enters′ = rw (up, add-one below, add-one (run .steps)) at enters
 
-  pub block-full : {cases′ symbols′ : List ℕ} {r : Run} → answer ≡ Full → Leaves run (leftOf run 3 0) [] [] r cases symbols cases′ symbols′
-      → stage room′ cases′ symbols′ r
-      ≡ madeBy (λ (c : Configuration). blockStep initial (finals ∷ []) c (pendingFirst cases symbols (run .pending - 1)) below (choiceOf choice))
-      (stage room cases symbols run)
-  unfolding madeBy judge choose blockStep entering numberOf symbolsIn Y
+  pub block-full : {word′ : WordRoom} {r : Run} → answer ≡ Full → Leaves (leftOf run 3 0) (withWord (run .pending) [] word) r word′
+      → stage room′ word′ r
+      ≡ madeBy (λ (c : Configuration). blockStep initial (finals ∷ []) c (pendingFirst word (run .pending - 1)) below (choiceOf choice))
+      (stage room word run)
+  unfolding madeBy judge choose blockStep entering endNumber wordIn Y
   block-full e leaves =
       rw (full-room-stays enters′ e (ready-holds ready))
-      (stopped-is ready (blockersLack (configurationOf (stage room cases symbols run))) refl refl leaves ∙ sym (rw (full-room enters′ e)))
+      (stopped-is ready blockersLack refl leaves ∙ sym (rw (full-room enters′ e)))
 
   module _ {held : ℕ} (e : answer ≡ Held held) where
     new : List Blocker
@@ -155,31 +139,31 @@ module _ (initial finals : ℕ) {room : BlockerRoom} {cases symbols : List ℕ} 
     unfolding new
     table-is = ap (λ (k : ℕ). tableOf k room′) (held-count enters′ e) ∙ placed-table new (held-placed enters′ e)
 
-    pub block-held : {cases′ symbols′ : List ℕ} {r : Run}
-        → Unpends run held (choice .hinted) (pendingAfter initial (finals ∷ []) (blockersFrom (unstampedRoom (room′ .masks) (room′ .levels)) held 0) (run .level .0) (pendingFirst cases symbols (run .pending - 1)))
-        r cases symbols cases′ symbols′
-        → stage room′ cases′ symbols′ r
-        ≡ madeBy (λ (c : Configuration). blockStep initial (finals ∷ []) c (pendingFirst cases symbols (run .pending - 1)) below (choiceOf choice))
-        (stage room cases symbols run)
-    unfolding madeBy judge choose blockStep entering after tablesAfter casesIn symbolsIn recordOf numberOf pendingOf new Y
+    pub block-held : {word′ : WordRoom} {r : Run}
+        → Unpends run held (choice .hinted) (pendingAfter initial (finals ∷ []) (blockersFrom (unstampedRoom (room′ .masks) (room′ .levels)) held 0) (run .level .0) (pendingFirst word (run .pending - 1)))
+        word r word′
+        → stage room′ word′ r
+        ≡ madeBy (λ (c : Configuration). blockStep initial (finals ∷ []) c (pendingFirst word (run .pending - 1)) below (choiceOf choice))
+        (stage room word run)
+    unfolding madeBy judge choose blockStep entering after tablesAfter wordLeft recordOf numberOf new Y
     block-held leaves =
-        let leaves′ = rw (same-after (unstamped-blocks initial room′ held 0) (finals ∷ []) (run .level .0) (pendingFirst cases symbols (run .pending - 1)), table-is) at leaves in
-        rw (held-placed enters′ e .tables, leaves′ .cases-are, leaves′ .symbols-are, leaves′ .record-is, held-count enters′ e, add-one (run .steps), add-one (run .blocks))
+        let leaves′ = rw (same-after (unstamped-blocks initial room′ held 0) (finals ∷ []) (run .level .0) (pendingFirst word (run .pending - 1)), table-is) at leaves in
+        rw (held-placed enters′ e .tables, leaves′ .word-is, leaves′ .record-is, held-count enters′ e, add-one (run .steps), add-one (run .blocks))
         (sym (rw (held-room enters′ e)))
 
 -- so masks and levels may be read
-pub block-holds : (initial finals : ℕ) {masks levels entered cases symbols : List ℕ} {run : Run}
-    → Ready (stage (roomOf masks levels entered) cases symbols run) → (below : ℕ) (choice : Choice) {above : Level} → above .0 ≡ below + 1
+pub block-holds : (initial finals : ℕ) {masks levels entered : List ℕ} {word : WordRoom} {run : Run}
+    → Ready (stage (roomOf masks levels entered) word run) → (below : ℕ) (choice : Choice) {above : Level} → above .0 ≡ below + 1
     → {answer : Entered} {masks′ levels′ entered′ : List ℕ}
     → Enters (run .held) (record { mask = choice .mask; level = above .0; entered = run .steps + 1 }) (roomOf masks levels entered) answer (roomOf masks′ levels′ entered′)
     → {held : ℕ} → answer ≡ Held held → Holds held masks′ levels′
 block-holds initial finals ready below choice up enters e = block-fits initial finals ready below choice up enters e .read
 
 -- the choice is the machine's
-module _ {image : List ℕ} {head : Head} {room : BlockerRoom} {cases symbols : List ℕ} {run : Run} (read : ReadAs image head)
-    (ready : Ready (stage room cases symbols run)) (hints : List ℕ) (way below X : ℕ) (choice : Choice)
+module _ {image : List ℕ} {head : Head} {room : BlockerRoom} {word : WordRoom} {run : Run} (read : ReadAs image head)
+    (ready : Ready (stage room word run)) (hints : List ℕ) (way below X : ℕ) (choice : Choice)
     (chose : choiceOf choice ≡ chosenFrom (systemOf image) (growthOf way (systemOf image) (rowsOf image)) (blockersIn (take (run .held) (room .masks)) (take (run .held) (room .levels))) below X (hintAt hints (run .blocks))) where
-  chosen-here : chosen (systemOf image) (choicesOf image hints way) (configurationOf (stage room cases symbols run)) below X ≡ choiceOf choice
+  chosen-here : chosen (systemOf image) (choicesOf image hints way) (configurationOf (stage room word run)) below X ≡ choiceOf choice
   unfolding chosen
   chosen-here = sym (chose ∙ same-chosen (systemOf image) (part-alike (ready-holds ready) (initialOf image)) (rowsOf image) way below X (hintAt hints (run .blocks)))
 
@@ -190,12 +174,12 @@ module _ {image : List ℕ} {head : Head} {room : BlockerRoom} {cases symbols : 
         few-blocks = ready .bounds .blocks;
         few-accepted = ready .bounds .accepted;
         one-hint = subst (λ (made : Machine.Choice). made .hinted ≤ 1) chosen-here
-            (chosen-hinted (chosen-is (systemOf image) (choicesOf image hints way) (configurationOf (stage room cases symbols run)) below X));
+            (chosen-hinted (chosen-is (systemOf image) (choicesOf image hints way) (configurationOf (stage room word run)) below X));
       }
 
   pub block-is : {later : Stage}
-      → later ≡ madeBy (λ (c : Configuration). blockStep (head .initial) (head .finals ∷ []) c (pendingFirst cases symbols (run .pending - 1)) below (choiceOf choice))
-      (stage room cases symbols run)
-      → later ≡ madeBy (blockOf image hints way (pendingFirst cases symbols (run .pending - 1)) below X) (stage room cases symbols run)
+      → later ≡ madeBy (λ (c : Configuration). blockStep (head .initial) (head .finals ∷ []) c (pendingFirst word (run .pending - 1)) below (choiceOf choice))
+      (stage room word run)
+      → later ≡ madeBy (blockOf image hints way (pendingFirst word (run .pending - 1)) below X) (stage room word run)
   unfolding madeBy blockOf
   block-is made = made ∙ rw (read .read, chosen-here)

@@ -13,12 +13,11 @@ use Rattle.automata.specs.declared.image.Head.{Head}
 use Rattle.automata.specs.declared.image.Image.{Image}
 use Rattle.automata.specs.declared.image.Image.the-variants as Answer
 use Rattle.automata.proofs.WordTests.{answer-valid, answer-head}
-use Rattle.machine.specs.Lent.{BlockerRoom, roomOf}
+use Rattle.machine.specs.Lent.{BlockerRoom, roomOf, WordRoom, wordRoomOf, lentOf}
 use Rattle.machine.specs.Runs.{Terms, oddRooms, oversize, unknownEdition, unknownWay, checkTerms, checkRun}
 use Rattle.machine.specs.Records.{broken}
 use Rattle.machine.proofs.RunsKept.{checked}
 use Rattle.checker.specs.declared.record.Record.{Record}
-use Rattle.checker.specs.Stage.{lentOf}
 use Rattle.checker.specs.Calls.{recordAs, Checked}
 
 -- the check of the way
@@ -39,7 +38,7 @@ module _ (way : ℕ) where
 module _ (masks levels entered cases symbols hints : List ℕ) (edition way : ℕ) where
   -- what they answer
   abbrev answered : ℕ
-  answered = checkTerms (lentOf (roomOf masks levels entered) cases symbols) hints edition way 0
+  answered = checkTerms (lentOf (roomOf masks levels entered) (wordRoomOf cases symbols)) hints edition way 0
 
   pub odd-levels : (length masks ≡ length levels → ⊥) → 30 ≡ answered
   unfolding checkTerms check oddRooms _or_ neg
@@ -128,18 +127,18 @@ module _ (blockers word : ℕ) (before : Record) where
             none-above l = sym (rw (le-ltb _ _ low, le-ltb _ _ held, le-ltb _ _ level, le-ltb _ _ pending, le-ltb _ _ blocks, le-ltb _ _ l))
 
 -- the checks of a run refuse it under this number
-pub record RefusedUnder (image : List ℕ) (room : BlockerRoom) (cases symbols : List ℕ) (terms : Terms) (number : ℕ) : Type 0 where
+pub record RefusedUnder (image : List ℕ) (room : BlockerRoom) (word : WordRoom) (terms : Terms) (number : ℕ) : Type 0 where
   pub some-number : number ≡ 0 → ⊥
-  pub checks : checkRun image (lentOf room cases symbols) terms ≡ number
+  pub checks : checkRun image (lentOf room word) terms ≡ number
 
-module _ (image : List ℕ) (room : BlockerRoom) (cases symbols : List ℕ) (terms : Terms) where
+module _ (image : List ℕ) (room : BlockerRoom) (word : WordRoom) (terms : Terms) where
   -- by what the reader answers of the image
   module _ {answer : Image} (read : answer ≡ readImage image) where
-    pub image-refuses : {number : ℕ} → answer ≡ Answer.Refused number → RefusedUnder image room cases symbols terms number
+    pub image-refuses : {number : ℕ} → answer ≡ Answer.Refused number → RefusedUnder image room word terms number
     unfolding checkRun readImage readWith checkTerms
     image-refuses {number} e = at (checkImage image) (sym read ∙ e) refl
       where
-        at : (checked : ℕ) → readWith image checked ≡ Answer.Refused number → checkImage image ≡ checked → RefusedUnder image room cases symbols terms number
+        at : (checked : ℕ) → readWith image checked ≡ Answer.Refused number → checkImage image ≡ checked → RefusedUnder image room word terms number
         at zero f c = let z : _≡_ {A = ℕ} 0 1 = cc in absurd (omega arith)
         at (suc checked) f c =
             let z : suc checked ≡ number = cc in
@@ -150,16 +149,16 @@ module _ (image : List ℕ) (room : BlockerRoom) (cases symbols : List ℕ) (ter
 
   -- of a valid image, by the checks of the rooms and the terms
   module _ {head : Head} (read : ReadAs image head) (number : ℕ)
-      (passed : number ≡ checkTerms (lentOf room cases symbols) (terms .hints) (terms .edition) (terms .way) 0) where
-    pub checked-is : checkRun image (lentOf room cases symbols) terms ≡ number
+      (passed : number ≡ checkTerms (lentOf room word) (terms .hints) (terms .edition) (terms .way) 0) where
+    pub checked-is : checkRun image (lentOf room word) terms ≡ number
     unfolding checkRun
-    checked-is = ap (checkTerms (lentOf room cases symbols) (terms .hints) (terms .edition) (terms .way)) (read .valid) ∙ sym passed
+    checked-is = ap (checkTerms (lentOf room word) (terms .hints) (terms .edition) (terms .way)) (read .valid) ∙ sym passed
 
-    pub terms-refuse : (number ≡ 0 → ⊥) → RefusedUnder image room cases symbols terms number
+    pub terms-refuse : (number ≡ 0 → ⊥) → RefusedUnder image room word terms number
     terms-refuse n = record { some-number = n; checks = checked-is }
 
     -- none applies
-    pub rooms-checked : number ≡ 0 → Checked room cases symbols
+    pub rooms-checked : number ≡ 0 → Checked room word
     rooms-checked none =
-        let c = checked image (lentOf room cases symbols) terms (checked-is ∙ none) in
+        let c = checked image (lentOf room word) terms (checked-is ∙ none) in
         record { blocker-room = c .even .blockers; word-room = c .even .symbols; few-places = c .few-places }

@@ -8,16 +8,16 @@ use native.Mathlib.Numerals.{add-one}
 use Rattle.lists.specs.Tests.{choose}
 use Rattle.machine.specs.System.{System}
 use Rattle.machine.specs.Machine.{oneMore, frame, closeWith, closeStep, empty, Next, goesOn, ends, comesTo, judge}
-use Rattle.machine.specs.Lent.{BlockerRoom, columnBack, placed}
-use Rattle.machine.specs.Runs.{numberOf, casesIn, symbolsIn, tablesAfter}
-use Rattle.machine.specs.Records.{configurationOf, pendingOf, recordOf, after}
+use Rattle.machine.specs.Lent.{BlockerRoom, WordRoom, withPending, withWord}
+use Rattle.machine.specs.Runs.{endNumber, numberOf, recordOf, wordIn, wordLeft, tablesAfter}
+use Rattle.machine.specs.Records.{configurationOf, after}
 use Rattle.blockers.specs.Room.{tableOf}
 use Rattle.rising.specs.Risen.{risenBy}
 use Rattle.closing.specs.Close.{lowestNone, keptBy, isEmpty, emptyLevel, closedBy, Closes}
 use Rattle.closing.specs.declared.Closed.{Closed}
 use Rattle.checker.specs.declared.record.Run.{Run}
 use Rattle.checker.specs.Stage.{stage, madeBy, countedOf, ClosesLevel}
-use Rattle.checker.proofs.Stages.{placed-nothing}
+use Rattle.checker.proofs.Stages.{none-pending, no-word}
 
 -- the answer of a close, by whether a level holds no blocker
 pub answer-empty : (b : Bool) → b ≡ true → _≡_ {A = ℕ} 0 (choose b 0 6)
@@ -36,31 +36,26 @@ pub close-leaves : {S : System} {run counted : Run} {closed : Closed} {answer : 
     room room′
 close-leaves closes answers e = record { record-is = rw (e, answers, closes .answers, closes .count); tables = closes .tables }
 
--- the word room stays where nothing was pending
-unchanged : (pending : ℕ) → pending ≡ 0 → (before : List ℕ) → before ≡ placed pending [] before
-unchanged pending nothing before = sym (placed-nothing before) ∙ ap (λ (k : ℕ). placed k [] before) (sym nothing)
-
 -- with nothing pending it is the machine's close
-module _ {S : System} {room : BlockerRoom} {cases symbols : List ℕ} {run r : Run} (nothing : run .pending ≡ 0) {room′ : BlockerRoom}
+module _ {S : System} {room : BlockerRoom} {word : WordRoom} {run r : Run} (nothing : run .pending ≡ 0) {room′ : BlockerRoom}
     (closes : ClosesLevel S run r room room′) where
   -- the stage that shows a close with these blockers
   shown : (n : Next) → choose (isEmpty (emptyLevel S (run .level .0) (tableOf (run .held) room))) 0 6 ≡ numberOf n
-      → casesIn n ≡ [] → symbolsIn n ≡ [] → pendingOf n ≡ 0
-      → comesTo n ≡ oneMore (configurationOf (stage room cases symbols run)) (closedBy S (run .level .0) (tableOf (run .held) room)) (run .level .0) false []
-      → stage room′ cases symbols r ≡ after (stage room cases symbols run) n
+      → wordLeft 0 n word ≡ word
+      → comesTo n ≡ oneMore (configurationOf (stage room word run)) (closedBy S (run .level .0) (tableOf (run .held) room)) (run .level .0) false []
+      → stage room′ word r ≡ after (stage room word run) n
   unfolding after tablesAfter recordOf
-  shown n number no-cases no-symbols no-pending e =
-      rw (closes .tables .tables, closes .record-is, add-one (run .steps), number, no-cases, no-symbols, no-pending, e, ← unchanged (run .pending) nothing cases, ← unchanged (run .pending) nothing symbols)
+  shown n number stays e = rw (closes .tables .tables, closes .record-is, add-one (run .steps), number, nothing, stays, e)
 
   at : (o : Option ℕ) → emptyLevel S (run .level .0) (tableOf (run .held) room) ≡ o
-      → stage room′ cases symbols r ≡ madeBy (closeStep S) (stage room cases symbols run)
-  unfolding madeBy closeStep closeWith judge lowestNone keptBy isEmpty choose numberOf casesIn symbolsIn pendingOf columnBack
+      → stage room′ word r ≡ madeBy (closeStep S) (stage room word run)
+  unfolding madeBy closeStep closeWith judge lowestNone keptBy isEmpty choose numberOf endNumber wordIn wordLeft
   at none e =
-      shown (goesOn (oneMore (configurationOf (stage room cases symbols run)) (risenBy S (run .level .0) (tableOf (run .held) room)) (run .level .0) false []))
-      (rw e) refl refl refl (rw e) ∙ sym (rw e)
+      shown (goesOn (oneMore (configurationOf (stage room word run)) (risenBy S (run .level .0) (tableOf (run .held) room)) (run .level .0) false []))
+      (rw e) (none-pending word) (rw e) ∙ sym (rw e)
   at (some j) e =
-      shown (ends (empty (oneMore (configurationOf (stage room cases symbols run)) (frame j (risenBy S (run .level .0) (tableOf (run .held) room))) (run .level .0) false [])))
-      (rw e) refl refl refl (rw e) ∙ sym (rw e)
+      shown (ends empty (oneMore (configurationOf (stage room word run)) (frame j (risenBy S (run .level .0) (tableOf (run .held) room))) (run .level .0) false []))
+      (rw e) (no-word word) (rw e) ∙ sym (rw e)
 
-  pub close-is : stage room′ cases symbols r ≡ madeBy (closeStep S) (stage room cases symbols run)
+  pub close-is : stage room′ word r ≡ madeBy (closeStep S) (stage room word run)
   close-is = at (emptyLevel S (run .level .0) (tableOf (run .held) room)) refl

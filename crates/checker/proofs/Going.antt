@@ -10,9 +10,9 @@ use Rattle.lists.specs.Tests.{choose}
 use Rattle.automata.specs.declared.image.Head.{Head}
 use Rattle.automata.specs.Answers.{ReadAs}
 use Rattle.machine.specs.Machine.{Given}
-use Rattle.machine.specs.Lent.{BlockerRoom}
-use Rattle.machine.specs.Runs.{Lent, Terms, systemOf, stepGiven, givenOf, checkRun, runOf}
-use Rattle.machine.specs.Records.{Stage, Called, workingStep, beginOf, stepWith, stepOf, stepsFrom, reachedBy, resultFrom}
+use Rattle.machine.specs.Lent.{BlockerRoom, WordRoom, Lent, lentOf}
+use Rattle.machine.specs.Runs.{Terms, Stage, systemOf, stepGiven, givenOf, checkRun, runOf}
+use Rattle.machine.specs.Records.{Called, workingStep, beginOf, stepWith, stepOf, stepsFrom, reachedBy}
 use Rattle.machine.specs.Promises.{BeginPromises}
 use Rattle.machine.proofs.Judging.{Even}
 use Rattle.machine.proofs.RunsKept.{checked, run-number}
@@ -20,12 +20,10 @@ use Rattle.machine.proofs.AnyRecord.{SameLengths, lengths-same, Takes, takes-ch
 use Rattle.machine.proofs.RecordSteps.{begin-takes}
 use Rattle.machine.proofs.StepsKept.{begin-promises, run-is-steps}
 use Rattle.checker.specs.declared.record.Run.{Run}
-use Rattle.checker.specs.declared.run.Counts.{Counts}
-use Rattle.checker.specs.Stage.{lentOf, termsOf, stage, wentOn, Ready}
-use Rattle.checker.specs.Whole.{countsIn, resultWith}
+use Rattle.checker.specs.Stage.{termsOf, stage, wentOn, Ready}
 
 -- what a step needs, of tables as long as those that passed
-takes-ready : {lent : Lent} {at : Stage} → Even lent → length (lent .cases) ≤ 65536 → Takes lent at → Ready at
+takes-ready : {lent : Lent} {at : Stage} → Even lent → length (lent .word .cases) ≤ 65536 → Takes lent at → Ready at
 takes-ready {lent} {at} even few takes =
     let same = takes .same in
     record {
@@ -121,17 +119,17 @@ module _ (image : List ℕ) (lent : Lent) (terms : Terms) (none : checkRun image
 
 -- a run: what a begin made goes on, by the steps that are allowed and one more
 module _ (image : List ℕ) (lent : Lent) (terms : Terms) where
-  data Begun : Type 0 where
-    taken : checkRun image lent terms ≡ 0 → Takes lent (beginOf image lent terms .left) → Begun
-    refused : (beginOf image lent terms .left .run .answer ≡ 6 → ⊥) → Begun
+  data BeginLeft : Type 0 where
+    taken : checkRun image lent terms ≡ 0 → Takes lent (beginOf image lent terms .left) → BeginLeft
+    refused : (beginOf image lent terms .left .run .answer ≡ 6 → ⊥) → BeginLeft
 
-  begun : Begun
+  begun : BeginLeft
   begun = at (run-number image lent terms)
     where
       promises : BeginPromises image lent terms (beginOf image lent terms)
       promises = begin-promises image lent terms
 
-      at : (checkRun image lent terms ≡ 0) ⊎ (20 ≤ checkRun image lent terms) → Begun
+      at : (checkRun image lent terms ≡ 0) ⊎ (20 ≤ checkRun image lent terms) → BeginLeft
       at (inl none) =
           taken none (subst (λ (called : Called). Takes lent (called .left)) (sym (promises .begins none))
           (begin-takes (systemOf image) lent (checked image lent terms none .even) (terms .edition)))
@@ -140,14 +138,14 @@ module _ (image : List ℕ) (lent : Lent) (terms : Terms) where
   pub begun-ready : beginOf image lent terms .left .run .answer ≡ 6 → Ready (beginOf image lent terms .left)
   begun-ready six = at begun
     where
-      at : Begun → Ready (beginOf image lent terms .left)
+      at : BeginLeft → Ready (beginOf image lent terms .left)
       at (taken none takes) = let c = checked image lent terms none in takes-ready (c .even) (c .few-places) takes
       at (refused not) = absurd (not six)
 
-  run-went : resultFrom (wentOn image (givenOf image terms) (suc (terms .allowance)) (beginOf image lent terms .left)) ≡ runOf image lent terms
-  run-went = ap resultFrom (at begun) ∙ sym (run-is-steps image lent terms)
+  run-went : wentOn image (givenOf image terms) (suc (terms .allowance)) (beginOf image lent terms .left) ≡ runOf image lent terms
+  run-went = at begun ∙ sym (run-is-steps image lent terms)
     where
-      at : Begun → wentOn image (givenOf image terms) (suc (terms .allowance)) (beginOf image lent terms .left)
+      at : BeginLeft → wentOn image (givenOf image terms) (suc (terms .allowance)) (beginOf image lent terms .left)
           ≡ reachedBy image lent terms (replicate (suc (terms .allowance)) terms)
       at (taken none takes) = went-steps image lent terms none (suc (terms .allowance)) (beginOf image lent terms .left) takes
       at (refused not) =
@@ -160,19 +158,16 @@ begin-same : (image : List ℕ) (lent : Lent) (hints : List ℕ) (allowance edit
 unfolding beginOf checkRun
 begin-same image lent hints allowance edition way = refl
 
-module _ (image : List ℕ) (room : BlockerRoom) (cases symbols hints : List ℕ) (allowance edition way : ℕ) {room₁ : BlockerRoom} {cases₁ symbols₁ : List ℕ} {begun : Run}
-    (begins : stage room₁ cases₁ symbols₁ begun ≡ beginOf image (lentOf room cases symbols) (termsOf hints 0 edition way) .left) where
-  pub run-ready : begun .answer ≡ 6 → Ready (stage room₁ cases₁ symbols₁ begun)
+module _ (image : List ℕ) (room : BlockerRoom) (word : WordRoom) (hints : List ℕ) (allowance edition way : ℕ) {room₁ : BlockerRoom} {word₁ : WordRoom} {begun : Run}
+    (begins : stage room₁ word₁ begun ≡ beginOf image (lentOf room word) (termsOf hints 0 edition way) .left) where
+  pub run-ready : begun .answer ≡ 6 → Ready (stage room₁ word₁ begun)
   run-ready six =
       subst Ready (sym begins)
-      (begun-ready image (lentOf room cases symbols) (termsOf hints 0 edition way) (sym (ap (λ (x : Stage). x .run .answer) begins) ∙ six))
+      (begun-ready image (lentOf room word) (termsOf hints 0 edition way) (sym (ap (λ (x : Stage). x .run .answer) begins) ∙ six))
 
-  pub run-ends : {room₂ : BlockerRoom} {cases₂ symbols₂ : List ℕ} {r : Run} {counts : Counts}
-      → stage room₂ cases₂ symbols₂ r ≡ wentOn image (stepGiven image hints allowance way) (suc allowance) (stage room₁ cases₁ symbols₁ begun)
-      → counts ≡ countsIn r → resultWith counts room₂ cases₂ symbols₂ ≡ runOf image (lentOf room cases symbols) (termsOf hints allowance edition way)
-  run-ends {room₂} {cases₂} {symbols₂} went counted =
-      ap (λ (c : Counts). resultWith c room₂ cases₂ symbols₂) counted
-      ∙ ap resultFrom
-      (went ∙ ap (λ (x : Stage). wentOn image (stepGiven image hints allowance way) (suc allowance) x)
-      (begins ∙ ap (λ (called : Called). called .left) (begin-same image (lentOf room cases symbols) hints allowance edition way)))
-      ∙ run-went image (lentOf room cases symbols) (termsOf hints allowance edition way)
+  pub run-ends : {later : Stage} → later ≡ wentOn image (stepGiven image hints allowance way) (suc allowance) (stage room₁ word₁ begun)
+      → later ≡ runOf image (lentOf room word) (termsOf hints allowance edition way)
+  run-ends went =
+      went ∙ ap (λ (x : Stage). wentOn image (stepGiven image hints allowance way) (suc allowance) x)
+      (begins ∙ ap (λ (called : Called). called .left) (begin-same image (lentOf room word) hints allowance edition way))
+      ∙ run-went image (lentOf room word) (termsOf hints allowance edition way)

@@ -5,26 +5,26 @@ use mathlib.Core.Bool.{Bool, true, false}
 use mathlib.Core.List.{List, [], _∷_}
 use native.Mathlib.Omega.{arith}
 use Rattle.lists.specs.Tests.{choose}
-use Rattle.machine.specs.Machine.{Blocker, Configuration, blocked, finalPending, Outcome, Next, ends, comesTo}
+use Rattle.machine.specs.Machine.{Blocker, Configuration, blocked, finalPending, Outcome, Next, ends, comesTo, halted}
 use Rattle.machine.specs.Why.{why, isReason}
-use Rattle.machine.specs.Lent.{BlockerRoom, roomOf, pendingFirst, columnBack, placed}
-use Rattle.machine.specs.Runs.{numberOf, casesIn, symbolsIn, tablesAfter}
-use Rattle.machine.specs.Records.{configurationOf, pendingOf, recordOf, after}
+use Rattle.machine.specs.Lent.{BlockerRoom, roomOf, WordRoom, pendingFirst, columnBack, placed, withPending, withWord}
+use Rattle.machine.specs.Runs.{endNumber, numberOf, recordOf, wordIn, wordLeft, tablesAfter}
+use Rattle.machine.specs.Records.{configurationOf, after}
 use Rattle.machine.proofs.LentTables.{blockers-length}
 use Rattle.blockers.specs.Room.{Holds, HoldsRoom, tableOf}
 use Rattle.blockers.specs.Answers.{reasonOf}
 use Rattle.blockers.specs.declared.reasons.Reason.{Reason}
 use Rattle.blockers.proofs.Placing.{own-room, even-holds}
 use Rattle.blockers.proofs.WhyBlocked.{blocked-told}
-use Rattle.pending.specs.Room.{Holds as HoldsWord, Placed as PlacedWord}
+use Rattle.pending.specs.Room.{Holds as HoldsWord}
 use Rattle.checker.specs.declared.record.Run.{Run}
 use Rattle.checker.specs.Stage.{recordIn, stage, Ready, leftOf, Leaves, Pends}
 
-module _ {room : BlockerRoom} {cases symbols : List ℕ} {run : Run} (ready : Ready (stage room cases symbols run)) where
+module _ {room : BlockerRoom} {word : WordRoom} {run : Run} (ready : Ready (stage room word run)) where
   pub ready-holds : HoldsRoom (run .held) room
   ready-holds = even-holds (ready .blocker-room) (ready .bounds .held)
 
-  pub ready-word : HoldsWord (run .pending) cases symbols
+  pub ready-word : HoldsWord (run .pending) word
   ready-word =
       record {
         in-cases = omega (arith, ready .bounds .pending, ready .bounds .level);
@@ -32,38 +32,34 @@ module _ {room : BlockerRoom} {cases symbols : List ℕ} {run : Run} (ready : Re
       }
 
   -- the blockers stay: only the word room and the record change
-  pub word-changes : (n : Next) {r : Run} {cases′ symbols′ : List ℕ} → comesTo n .table ≡ tableOf (run .held) room
-      → cases′ ≡ placed (run .pending) (casesIn n) cases → symbols′ ≡ placed (run .pending) (symbolsIn n) symbols → recordIn r ≡ recordOf n
-      → stage room cases′ symbols′ r ≡ after (stage room cases symbols run) n
+  pub word-changes : (n : Next) {r : Run} {word′ : WordRoom} → comesTo n .table ≡ tableOf (run .held) room
+      → word′ ≡ wordLeft (run .pending) n word → recordIn r ≡ recordOf n → stage room word′ r ≡ after (stage room word run) n
   unfolding after tablesAfter
-  word-changes n table cases-are symbols-are record-is =
-      rw (cases-are, symbols-are, record-is, table, own-room ready-holds)
+  word-changes n table word-is record-is = rw (word-is, record-is, table, own-room ready-holds)
 
   -- a stop: the word room is cleared, and nothing else of the record changes
-  pub stopped-is : (o : Outcome) {r : Run} {cases′ symbols′ : List ℕ} → comesTo (ends o) ≡ configurationOf (stage room cases symbols run)
-      → symbolsIn (ends o) ≡ [] → Leaves run (leftOf run (numberOf (ends o)) 0) [] [] r cases symbols cases′ symbols′
-      → stage room cases′ symbols′ r ≡ after (stage room cases symbols run) (ends o)
-  unfolding casesIn recordOf pendingOf
-  stopped-is o e none leaves =
-      word-changes (ends o) (ap (λ (c : Configuration). c .table) e) (leaves .cases-are)
-      (leaves .symbols-are ∙ ap (λ (s : List ℕ). placed (run .pending) s symbols) (sym none))
-      (ap recordIn (leaves .record-is) ∙ sym (rw (e, blockers-length room (run .held) 0)))
+  pub stopped-is : (o : Outcome) {r : Run} {word′ : WordRoom} → wordIn o ≡ []
+      → Leaves (leftOf run (endNumber o) 0) (withWord (run .pending) [] word) r word′
+      → stage room word′ r ≡ after (stage room word run) (ends o (halted (configurationOf (stage room word run))))
+  unfolding wordLeft recordOf numberOf
+  stopped-is o none leaves =
+      word-changes (ends o (halted (configurationOf (stage room word run)))) refl
+      (leaves .word-is ∙ ap (λ (found : List ℕ). withWord (run .pending) found word) (sym none))
+      (ap recordIn (leaves .record-is) ∙ sym (rw (blockers-length room (run .held) 0)))
 
 -- what a function that only reads knows of masks and levels
-pub ready-read : {masks levels entered cases symbols : List ℕ} {run : Run} → Ready (stage (roomOf masks levels entered) cases symbols run)
+pub ready-read : {masks levels entered : List ℕ} {word : WordRoom} {run : Run} → Ready (stage (roomOf masks levels entered) word run)
     → Holds (run .held) masks levels
 ready-read ready = ready-holds ready .read
 
--- the word room cleared, and the record with its number
-pub stop-is : (run : Run) (number : ℕ) {r : Run} {cases symbols cases′ symbols′ : List ℕ} → PlacedWord (run .pending) [] cases symbols cases′ symbols′
-    → r ≡ leftOf run number 0 → Leaves run (leftOf run number 0) [] [] r cases symbols cases′ symbols′
-unfolding columnBack
-stop-is run number cleared e = record { record-is = e; cases-are = cleared .new-cases; symbols-are = cleared .new-symbols }
-
 -- nothing in place of nothing
-pub placed-nothing : (before : List ℕ) → placed 0 [] before ≡ before
-unfolding placed
-placed-nothing before = refl
+pub none-pending : (word : WordRoom) → withPending 0 [] word ≡ word
+unfolding withPending columnBack placed
+none-pending word = refl
+
+pub no-word : (word : WordRoom) → withWord 0 [] word ≡ word
+unfolding withWord placed
+no-word word = refl
 
 -- F alone: it becomes pending exactly if there is no reason why it is blocked at the level
 module _ (initial finals : ℕ) (table : List Blocker) (level : ℕ) (r : Reason) (told : Bool) (narrow : initial < 2 ^ 64)
@@ -71,14 +67,12 @@ module _ (initial finals : ℕ) (table : List Blocker) (level : ℕ) (r : Reason
   test : told ≡ blocked initial table level finals
   test = blocked-told initial table level finals r told narrow e tells
 
-  pub final-blocked : (cases symbols : List ℕ) → told ≡ true → Pends 0 (finalPending initial (finals ∷ []) table level) 0 cases symbols cases symbols
-  unfolding finalPending choose columnBack
-  final-blocked cases symbols t =
-      rw (sym test ∙ t) (record { counted = refl; new-cases = sym (placed-nothing cases); new-symbols = sym (placed-nothing symbols) })
+  pub final-blocked : (word : WordRoom) → told ≡ true → Pends 0 (finalPending initial (finals ∷ []) table level) 0 word word
+  unfolding finalPending choose
+  final-blocked word t = rw (sym test ∙ t) (record { counted = refl; word-is = sym (none-pending word) })
 
-  pub final-free : (cases symbols cases′ symbols′ : List ℕ) → told ≡ false
-      → PlacedWord 0 (record { case = finals; symbol = 0 } ∷ pendingFirst cases symbols 0) cases symbols cases′ symbols′
-      → Pends 0 (finalPending initial (finals ∷ []) table level) 1 cases symbols cases′ symbols′
-  unfolding finalPending choose columnBack pendingFirst
-  final-free cases symbols cases′ symbols′ t put =
-      rw (sym test ∙ t) (record { counted = refl; new-cases = put .new-cases; new-symbols = put .new-symbols })
+  pub final-free : (word word′ : WordRoom) → told ≡ false
+      → word′ ≡ withPending 0 (record { case = finals; symbol = 0 } ∷ pendingFirst word 0) word
+      → Pends 0 (finalPending initial (finals ∷ []) table level) 1 word word′
+  unfolding finalPending choose pendingFirst
+  final-free word word′ t put = rw (sym test ∙ t) (record { counted = refl; word-is = put })

@@ -19,9 +19,9 @@ use Rattle.automata.specs.Answers.{ReadAs}
 use Rattle.machine.specs.System.{System}
 use Rattle.machine.specs.Machine.{Blocker, Pending, Configuration, Given, oneMore, blocked, settled, qualifies, wordOf, extendStep, workOn, workStep, stepOn, step}
 use Rattle.machine.specs.Machine.{Step, nonempty, goesOn, ends, judge}
-use Rattle.machine.specs.Lent.{BlockerRoom, blockersIn, pendingFirst}
-use Rattle.machine.specs.Runs.{systemOf, roomsOf, numberOf, casesIn, symbolsIn}
-use Rattle.machine.specs.Records.{Stage, configurationOf, pendingOf, recordOf, after}
+use Rattle.machine.specs.Lent.{BlockerRoom, WordRoom, wordRoomOf, blockersIn, pendingFirst, withPending, withWord}
+use Rattle.machine.specs.Runs.{Stage, systemOf, roomsOf, endNumber, numberOf, recordOf, wordIn, wordLeft}
+use Rattle.machine.specs.Records.{configurationOf, after}
 use Rattle.machine.proofs.LentTables.{blockers-length, pending-length}
 use Rattle.machine.proofs.Unstamped.{same-qualifies}
 use Rattle.blockers.specs.Room.{tableOf}
@@ -31,7 +31,7 @@ use Rattle.choices.specs.declared.Found.{Found}
 use Rattle.choices.specs.declared.Found.the-variants.{At, Nothing}
 use Rattle.pending.specs.Room.{Holds as HoldsWord}
 use Rattle.checker.specs.declared.record.Run.{Run}
-use Rattle.checker.specs.Stage.{stage, choicesOf, madeBy, blockOf, Ready, countedOf, Leaves, LeavesPending, Extended}
+use Rattle.checker.specs.Stage.{stage, choicesOf, madeBy, blockOf, Ready, countedOf, Leaves, Extended}
 use Rattle.checker.proofs.Stages.{ready-holds, word-changes}
 
 -- what the search for a symbol says of the first symbol that qualifies
@@ -49,40 +49,40 @@ unfolding foundOf
 found-none S X none e = refl
 found-none S X (some s) e = let z : _≡_ {A = ℕ} 0 1 = cc in absurd (omega arith)
 
-module _ {image : List ℕ} {head : Head} {room : BlockerRoom} {cases symbols : List ℕ} {run : Run} (read : ReadAs image head)
-    (ready : Ready (stage room cases symbols run)) (one : 1 ≤ run .pending) where
+module _ {image : List ℕ} {head : Head} {room : BlockerRoom} {word : WordRoom} {run : Run} (read : ReadAs image head)
+    (ready : Ready (stage room word run)) (one : 1 ≤ run .pending) where
   S : System
   S = systemOf image
 
   here : Stage
-  here = stage room cases symbols run
+  here = stage room word run
 
   c : Configuration
-  c = configurationOf (stage room cases symbols run)
+  c = configurationOf (stage room word run)
 
   -- the lowest pending case, its level but one, and the cases above it
   X : ℕ
-  X = getD cases (run .pending - 1) 0
+  X = getD (word .cases) (run .pending - 1) 0
 
   below : ℕ
   below = run .level .0 - run .pending
 
   rest : List Pending
-  rest = pendingFirst cases symbols (run .pending - 1)
+  rest = pendingFirst word (run .pending - 1)
 
   lowest : Pending
-  lowest = record { case = getD cases (run .pending - 1) 0; symbol = getD symbols (run .pending - 1) 0 }
+  lowest = record { case = getD (word .cases) (run .pending - 1) 0; symbol = getD (word .symbols) (run .pending - 1) 0 }
 
   table : List Blocker
   table = tableOf (run .held) room
 
-  all-pending : pendingFirst cases symbols (run .pending) ≡ lowest ∷ rest
+  all-pending : pendingFirst word (run .pending) ≡ lowest ∷ rest
   unfolding pendingFirst lowest rest
-  all-pending = let e : run .pending ≡ suc (run .pending - 1) = omega arith in ap (pendingFirst cases symbols) e
+  all-pending = let e : run .pending ≡ suc (run .pending - 1) = omega arith in ap (pendingFirst word) e
 
   below-is : run .level .0 - suc (length rest) ≡ below
   unfolding rest below
-  below-is = omega (arith, pending-length cases symbols (run .pending - 1))
+  below-is = omega (arith, pending-length word (run .pending - 1))
 
   pub below-small : run .level .0 - run .pending < 65536
   below-small = omega (arith, ready .bounds .level, ready .room-fits)
@@ -95,23 +95,23 @@ module _ {image : List ℕ} {head : Head} {room : BlockerRoom} {cases symbols : 
   unfolding step stepOn workStep S c first X below table lowest rest
   worked given o e = rw (all-pending, below-is, e)
 
-  module _ (hints : List ℕ) (way : ℕ) {found : Found} (search-is : found ≡ foundOf (systemOf image) (getD cases (run .pending - 1) 0)
-      (firstFrom (qualifies (systemOf image) (blockersIn (take (run .held) (room .masks)) (take (run .held) (room .levels))) (run .level .0 - run .pending) (getD cases (run .pending - 1) 0))
+  module _ (hints : List ℕ) (way : ℕ) {found : Found} (search-is : found ≡ foundOf (systemOf image) (getD (word .cases) (run .pending - 1) 0)
+      (firstFrom (qualifies (systemOf image) (blockersIn (take (run .held) (room .masks)) (take (run .held) (room .levels))) (run .level .0 - run .pending) (getD (word .cases) (run .pending - 1) 0))
       (symbolsOf image) 0)) where
     found-is : found ≡ foundOf S X first
     unfolding S X first below table
     found-is =
         search-is
-        ∙ ap (λ (test : ℕ → Bool). foundOf (systemOf image) (getD cases (run .pending - 1) 0) (firstFrom test (symbolsOf image) 0))
-        (same-qualifies (systemOf image) (part-alike (ready-holds ready) (initialOf image)) (run .level .0 - run .pending) (getD cases (run .pending - 1) 0))
+        ∙ ap (λ (test : ℕ → Bool). foundOf (systemOf image) (getD (word .cases) (run .pending - 1) 0) (firstFrom test (symbolsOf image) 0))
+        (same-qualifies (systemOf image) (part-alike (ready-holds ready) (initialOf image)) (run .level .0 - run .pending) (getD (word .cases) (run .pending - 1) 0))
 
     pub work-blocks : {later : Stage} → found ≡ Nothing
-        → later ≡ madeBy (blockOf image hints way (pendingFirst cases symbols (run .pending - 1)) (run .level .0 - run .pending) (getD cases (run .pending - 1) 0))
-        (stage room cases symbols run)
-        → later ≡ madeBy (step (systemOf image) (choicesOf image hints way)) (stage room cases symbols run)
+        → later ≡ madeBy (blockOf image hints way (pendingFirst word (run .pending - 1)) (run .level .0 - run .pending) (getD (word .cases) (run .pending - 1) 0))
+        (stage room word run)
+        → later ≡ madeBy (step (systemOf image) (choicesOf image hints way)) (stage room word run)
     unfolding madeBy blockOf workOn S c lowest rest below X
     work-blocks nothing made =
-        made ∙ ap (λ (st : Step). after (stage room cases symbols run) (judge (roomsOf (stage room cases symbols run .tables)) (configurationOf (stage room cases symbols run)) st))
+        made ∙ ap (λ (st : Step). after (stage room word run) (judge (roomsOf (stage room word run .tables)) (configurationOf (stage room word run)) st))
         (sym (worked (choicesOf image hints way) none (found-none _ _ _ (sym found-is ∙ nothing))))
 
     module _ (symbol : Symbol) (case : ℕ) (is : found ≡ At symbol case) where
@@ -131,11 +131,11 @@ module _ {image : List ℕ} {head : Head} {room : BlockerRoom} {cases symbols : 
       extends-by b e = worked (choicesOf image hints way) (some (symbol .0)) some-found ∙ ap (extendStep S c lowest rest (symbol .0)) (sym test-is ∙ e)
 
       -- at level 0 a backward set that qualifies contains I, so one that does not is pending above level 0
-      pub pend-room : subset (head .initial) case ≡ false → HoldsWord (run .pending + 1) cases symbols
+      pub pend-room : subset (head .initial) case ≡ false → HoldsWord (run .pending + 1) word
       unfolding qualifies settled blocked S X first below
       pend-room not-inside = at (run .level .0 - run .pending) refl
         where
-          at : (under : ℕ) → run .level .0 - run .pending ≡ under → HoldsWord (run .pending + 1) cases symbols
+          at : (under : ℕ) → run .level .0 - run .pending ≡ under → HoldsWord (run .pending + 1) word
           at zero e =
               let chose = first-from-some (qualifies S table below X) (symbolsOf image) 0 some-found .2 in
               let free : T (subset (initialOf image) (S .backward (symbol .0) X)) → ⊥ = fails (sym test-is ∙ not-inside) in
@@ -147,54 +147,54 @@ module _ {image : List ℕ} {head : Head} {room : BlockerRoom} {cases symbols : 
                 in-symbols = omega (arith, ready .bounds .level, ready .word-room);
               }
 
-      module _ {cases′ symbols′ : List ℕ} {r : Run} where
+      module _ {word′ : WordRoom} {r : Run} where
         finds : subset (head .initial) case ≡ true
-            → Leaves run (countedOf run 1 0) [] (symbol .0 ∷ wordOf (pendingFirst cases symbols (run .pending))) r cases symbols cases′ symbols′
-            → stage room cases′ symbols′ r ≡ madeBy (step (systemOf image) (choicesOf image hints way)) (stage room cases symbols run)
-        unfolding madeBy judge extendStep casesIn symbolsIn recordOf numberOf pendingOf S c table here
+            → Leaves (countedOf run 1 0) (withWord (run .pending) (symbol .0 ∷ wordOf (pendingFirst word (run .pending))) word) r word′
+            → stage room word′ r ≡ madeBy (step (systemOf image) (choicesOf image hints way)) (stage room word run)
+        unfolding madeBy judge extendStep wordLeft wordIn recordOf numberOf endNumber S c table here
         finds inside leaves =
-            word-changes ready (ends (nonempty (symbol .0 ∷ wordOf (lowest ∷ rest)) (oneMore c table (run .level .0) (run .opened) []))) refl
-            (leaves .cases-are) (leaves .symbols-are ∙ rw all-pending)
+            word-changes ready (ends (nonempty (symbol .0 ∷ wordOf (lowest ∷ rest))) (oneMore c table (run .level .0) (run .opened) [])) refl
+            (leaves .word-is ∙ rw all-pending)
             (rw (leaves .record-is, add-one (run .steps), blockers-length room (run .held) 0))
             ∙ sym (ap (λ (st : Step). after here (judge (roomsOf (here .tables)) c st)) (extends-by true inside))
 
         pends : subset (head .initial) case ≡ false
-            → LeavesPending run (countedOf run 6 (run .pending + 1)) (record { case = case; symbol = symbol .0 } ∷ pendingFirst cases symbols (run .pending)) r
-            cases symbols cases′ symbols′
-            → stage room cases′ symbols′ r ≡ madeBy (step (systemOf image) (choicesOf image hints way)) (stage room cases symbols run)
-        unfolding madeBy judge extendStep casesIn symbolsIn recordOf numberOf pendingOf S c table here X lowest rest
+            → Leaves (countedOf run 6 (run .pending + 1))
+            (withPending (run .pending) (record { case = case; symbol = symbol .0 } ∷ pendingFirst word (run .pending)) word) r word′
+            → stage room word′ r ≡ madeBy (step (systemOf image) (choicesOf image hints way)) (stage room word run)
+        unfolding madeBy judge extendStep wordLeft recordOf numberOf S c table here X lowest rest
         pends outside leaves =
             let now-pending : List Pending = record { case = S .backward (symbol .0) X; symbol = symbol .0 } ∷ lowest ∷ rest in
-            let counted : length now-pending ≡ run .pending + 1 = omega (arith, ap length all-pending, pending-length cases symbols (run .pending)) in
-            let e : record { case = case; symbol = symbol .0 } ∷ pendingFirst cases symbols (run .pending) ≡ now-pending = rw (case-is, all-pending) in
+            let counted : length now-pending ≡ run .pending + 1 = omega (arith, ap length all-pending, pending-length word (run .pending)) in
+            let e : record { case = case; symbol = symbol .0 } ∷ pendingFirst word (run .pending) ≡ now-pending = rw (case-is, all-pending) in
             word-changes ready (goesOn (oneMore c table (run .level .0) (run .opened) now-pending)) refl
-            (leaves .cases-are ∙ rw e) (leaves .symbols-are ∙ rw e)
+            (leaves .word-is ∙ rw e)
             (rw (leaves .record-is, add-one (run .steps), blockers-length room (run .held) 0, counted))
             ∙ sym (ap (λ (st : Step). after here (judge (roomsOf (here .tables)) c st)) (extends-by false outside))
 
-        pub work-extends : Extended (subset (head .initial) case) run (record { case = case; symbol = symbol .0 }) (pendingFirst cases symbols (run .pending)) r
-            cases symbols cases′ symbols′
-            → stage room cases′ symbols′ r ≡ madeBy (step (systemOf image) (choicesOf image hints way)) (stage room cases symbols run)
+        pub work-extends : Extended (subset (head .initial) case) run (record { case = case; symbol = symbol .0 }) (pendingFirst word (run .pending)) word r word′
+            → stage room word′ r ≡ madeBy (step (systemOf image) (choicesOf image hints way)) (stage room word run)
         work-extends = at (subset (head .initial) case) refl
           where
             at : (b : Bool) → subset (head .initial) case ≡ b
-                → Extended b run (record { case = case; symbol = symbol .0 }) (pendingFirst cases symbols (run .pending)) r cases symbols cases′ symbols′
-                → stage room cases′ symbols′ r ≡ madeBy (step (systemOf image) (choicesOf image hints way)) (stage room cases symbols run)
+                → Extended b run (record { case = case; symbol = symbol .0 }) (pendingFirst word (run .pending)) word r word′
+                → stage room word′ r ≡ madeBy (step (systemOf image) (choicesOf image hints way)) (stage room word run)
             at true e leaves = finds e leaves
             at false e leaves = pends e leaves
 
 -- what an extend leaves, by the test
-module _ (initial case : ℕ) (b : Bool) (test : b ≡ subset initial case) {run : Run} (symbol : ℕ) (pending : List Pending) {r : Run} {cases symbols cases′ symbols′ : List ℕ} where
-  pub extend-finds : b ≡ true → Leaves run (countedOf run 1 0) [] (symbol ∷ wordOf pending) r cases symbols cases′ symbols′
-      → Extended (subset initial case) run (record { case = case; symbol = symbol }) pending r cases symbols cases′ symbols′
+module _ (initial case : ℕ) (b : Bool) (test : b ≡ subset initial case) (run : Run) (symbol : ℕ) (pending : List Pending) (word : WordRoom) {r : Run} {word′ : WordRoom} where
+  pub extend-finds : b ≡ true → Leaves (countedOf run 1 0) (withWord (run .pending) (symbol ∷ wordOf pending) word) r word′
+      → Extended (subset initial case) run (record { case = case; symbol = symbol }) pending word r word′
   extend-finds e leaves =
-      subst (λ (x : Bool). Extended x run (record { case = case; symbol = symbol }) pending r cases symbols cases′ symbols′) (sym e ∙ test) leaves
+      subst (λ (x : Bool). Extended x run (record { case = case; symbol = symbol }) pending word r word′) (sym e ∙ test) leaves
 
-  pub extend-pends : b ≡ false → LeavesPending run (countedOf run 6 (run .pending + 1)) (record { case = case; symbol = symbol } ∷ pending) r cases symbols cases′ symbols′
-      → Extended (subset initial case) run (record { case = case; symbol = symbol }) pending r cases symbols cases′ symbols′
+  pub extend-pends : b ≡ false
+      → Leaves (countedOf run 6 (run .pending + 1)) (withPending (run .pending) (record { case = case; symbol = symbol } ∷ pending) word) r word′
+      → Extended (subset initial case) run (record { case = case; symbol = symbol }) pending word r word′
   extend-pends e leaves =
-      subst (λ (x : Bool). Extended x run (record { case = case; symbol = symbol }) pending r cases symbols cases′ symbols′) (sym e ∙ test) leaves
+      subst (λ (x : Bool). Extended x run (record { case = case; symbol = symbol }) pending word r word′) (sym e ∙ test) leaves
 
-pub extend-room : (initial case : ℕ) {count : ℕ} {cases symbols : List ℕ} (b : Bool) → b ≡ subset initial case → b ≡ false
-    → (subset initial case ≡ false → HoldsWord count cases symbols) → HoldsWord count cases symbols
+pub extend-room : (initial case : ℕ) {count : ℕ} {word : WordRoom} (b : Bool) → b ≡ subset initial case → b ≡ false
+    → (subset initial case ≡ false → HoldsWord count word) → HoldsWord count word
 extend-room initial case b test e room = room (sym test ∙ e)

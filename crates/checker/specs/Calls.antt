@@ -2,15 +2,12 @@
 -- definitions.
 use Prim.Native.Nat.{ℕ, _≤_}
 use mathlib.Core.Path.{_≡_}
-use mathlib.Core.List.{List}
 use lib.ListN.{length}
-use Rattle.machine.specs.Lent.{BlockerRoom, EvenRoom}
-use Rattle.machine.specs.Runs.{zeroed}
-use Rattle.machine.specs.Records.{RunRecord, Stage}
+use Rattle.machine.specs.Lent.{BlockerRoom, EvenRoom, WordRoom, lentOf}
+use Rattle.machine.specs.Runs.{RunRecord, Stage}
 use Rattle.machine.specs.Records as Machine
-use Rattle.checker.specs.Stage.{lentOf}
 use Rattle.checker.specs.declared.record.Record.{Record}
-use Rattle.checker.specs.declared.calls.Called.{Called}
+use Rattle.checker.specs.declared.step.Called.{Called}
 
 -- the struct as the machine's record
 abbrev pub recordAs : Record → RunRecord
@@ -26,21 +23,15 @@ recordAs lent = record {
 }
 
 -- the tables and the record, as they stand between two calls
-abbrev pub stageAs : BlockerRoom → List ℕ → List ℕ → Record → Stage
-stageAs room cases symbols lent = record { tables = lentOf room cases symbols; run = recordAs lent }
+abbrev pub stageAs : BlockerRoom → WordRoom → Record → Stage
+stageAs room word lent = record { tables = lentOf room word; run = recordAs lent }
 
 -- what a call gives back, with what the tables then hold
-abbrev pub calledAs : BlockerRoom → List ℕ → List ℕ → Called → Machine.Called
-calledAs room cases symbols called = record { number = called .number; left = stageAs room cases symbols (called .left) }
+abbrev pub calledAs : BlockerRoom → WordRoom → Called → Machine.Called
+calledAs room word called = record { number = called .number; left = stageAs room word (called .left) }
 
 -- the rooms have passed their checks
-pub record Checked (room : BlockerRoom) (cases symbols : List ℕ) : Type 0 where
+pub record Checked (room : BlockerRoom) (word : WordRoom) : Type 0 where
   pub blocker-room : EvenRoom room
-  pub word-room : length cases ≡ length symbols
-  pub few-places : length cases ≤ 65536
-
--- every place holds 0
-pub record Cleared (room : BlockerRoom) (cases symbols : List ℕ) (room′ : BlockerRoom) (cases′ symbols′ : List ℕ) : Type 0 where
-  pub new-room : room′ ≡ zeroed (lentOf room cases symbols) .room
-  pub new-cases : cases′ ≡ zeroed (lentOf room cases symbols) .cases
-  pub new-symbols : symbols′ ≡ zeroed (lentOf room cases symbols) .symbols
+  pub word-room : length (word .cases) ≡ length (word .symbols)
+  pub few-places : length (word .cases) ≤ 65536

@@ -1,3 +1,3 @@
 pub mod Stage
-pub mod Whole
 pub mod Calls
+pub mod Moments

@@ -9,16 +9,13 @@ use Rattle.lists.specs.Tests.{choose}
 use Rattle.automata.specs.Image.{initialOf, finalOf}
 use Rattle.machine.specs.System.{System}
 use Rattle.machine.specs.Machine.{Pending, Configuration, Given, Step, judge, wordOf, blockStep, chosen}
-use Rattle.machine.specs.Lent.{BlockerRoom, EvenRoom, columnBack, caseOf, symbolOf, placed}
-use Rattle.machine.specs.Runs.{Lent, Terms, systemOf, roomsOf, stepGiven}
-use Rattle.machine.specs.Records.{RunRecord, Stage, configurationOf, after, workingStep}
+use Rattle.machine.specs.Lent.{BlockerRoom, EvenRoom, WordRoom, lentOf, withPending, withWord}
+use Rattle.machine.specs.Runs.{Terms, RunRecord, Stage, systemOf, roomsOf, stepGiven}
+use Rattle.machine.specs.Records.{configurationOf, after, workingStep}
 use Rattle.machine.specs.Promises.{Unbroken}
 use Rattle.blockers.specs.Room.{tableOf, Placed}
 use Rattle.closing.specs.Close.{isEmpty, emptyLevel, closedBy}
 use Rattle.checker.specs.declared.record.Run.{Run}
-
-abbrev pub lentOf : BlockerRoom → List ℕ → List ℕ → Lent
-lentOf room cases symbols = record { room = room; cases = cases; symbols = symbols }
 
 abbrev pub termsOf : List ℕ → ℕ → ℕ → ℕ → Terms
 termsOf hints allowance edition way = record { hints = hints; allowance = allowance; edition = edition; way = way }
@@ -41,8 +38,8 @@ recordIn run = record {
 }
 
 -- the tables and the record, as they stand between two steps
-abbrev pub stage : BlockerRoom → List ℕ → List ℕ → Run → Stage
-stage room cases symbols run = record { tables = lentOf room cases symbols; run = recordIn run }
+abbrev pub stage : BlockerRoom → WordRoom → Run → Stage
+stage room word run = record { tables = lentOf room word; run = recordIn run }
 
 -- so many calls one after the other, of which none is refused: each makes a step if the record works
 unfoldable pub wentOn : List ℕ → Given → ℕ → Stage → Stage
@@ -61,8 +58,8 @@ blockOf image hints way rest below X c =
 -- What a step needs of the tables and the record: the rooms' tables are of one length, the word room has at most 65,536 places, and 33 does not refuse it.
 pub record Ready (at : Stage) : Type 0 where
   pub blocker-room : EvenRoom (at .tables .room)
-  pub word-room : length (at .tables .cases) ≡ length (at .tables .symbols)
-  pub room-fits : length (at .tables .cases) ≤ 65536
+  pub word-room : length (at .tables .word .cases) ≡ length (at .tables .word .symbols)
+  pub room-fits : length (at .tables .word .cases) ≤ 65536
   pub bounds : Unbroken (roomsOf (at .tables)) (at .run)
 
 -- the record with this answer and so many cases pending
@@ -123,15 +120,10 @@ pub record ClosesLevel (S : System) (run r : Run) (room room′ : BlockerRoom) :
       (length (closedBy S (run .level .0) (tableOf (run .held) room)))
   pub tables : Placed (run .held) (closedBy S (run .level .0) (tableOf (run .held) room)) room room′
 
--- the record became this one, and these cases and symbols stand in place of those that were pending
-pub record Leaves (run became : Run) (new-cases new-symbols : List ℕ) (r : Run) (cases symbols cases′ symbols′ : List ℕ) : Type 0 where
-  pub record-is : r ≡ became
-  pub cases-are : cases′ ≡ placed (run .pending) new-cases cases
-  pub symbols-are : symbols′ ≡ placed (run .pending) new-symbols symbols
-
--- the same with these cases pending
-abbrev pub LeavesPending : Run → Run → List Pending → Run → List ℕ → List ℕ → List ℕ → List ℕ → Type 0
-LeavesPending run became pending = Leaves run became (columnBack caseOf pending) (columnBack symbolOf pending)
+-- what is left where the blockers stay: this record, and this word room
+pub record Leaves (run : Run) (word : WordRoom) (r : Run) (word′ : WordRoom) : Type 0 where
+  pub record-is : r ≡ run
+  pub word-is : word′ ≡ word
 
 -- the record after an open, with so many cases pending
 abbrev pub openedOf : Run → ℕ → Run
@@ -148,25 +140,24 @@ openedOf run pending = record {
 
 -- "Open: N grows by 1 and is open", with these cases pending then; or, "the level equals the word room", the run ends under 4. The first argument is
 -- whether there is a level more in the word room.
-abbrev pub Opened : Bool → Run → List Pending → Run → List ℕ → List ℕ → List ℕ → List ℕ → Type 0
-Opened true run pending = LeavesPending run (openedOf run (length pending)) pending
-Opened false run pending = Leaves run (leftOf run 4 0) [] []
+abbrev pub Opened : Bool → Run → List Pending → WordRoom → Run → WordRoom → Type 0
+Opened true run pending word = Leaves (openedOf run (length pending)) (withPending (run .pending) pending word)
+Opened false run pending word = Leaves (leftOf run 4 0) (withWord (run .pending) [] word)
 
 -- after a blocker has entered, so that `held` are held, and took a hint or not: these cases are pending
-abbrev pub Unpends : Run → ℕ → ℕ → List Pending → Run → List ℕ → List ℕ → List ℕ → List ℕ → Type 0
-Unpends run held hinted pending = LeavesPending run (blockedOf run held (length pending) hinted) pending
+abbrev pub Unpends : Run → ℕ → ℕ → List Pending → WordRoom → Run → WordRoom → Type 0
+Unpends run held hinted pending word = Leaves (blockedOf run held (length pending) hinted) (withPending (run .pending) pending word)
 
 -- "If P contains I: answer 1; the word is that symbol, then the symbols that led to the pending cases from the lowest level up. Otherwise P becomes
 -- pending": p has P and the symbol, and the first argument is whether P contains I
-abbrev pub Extended : Bool → Run → Pending → List Pending → Run → List ℕ → List ℕ → List ℕ → List ℕ → Type 0
-Extended true run p pending = Leaves run (countedOf run 1 0) [] (p .symbol ∷ wordOf pending)
-Extended false run p pending = LeavesPending run (countedOf run 6 (run .pending + 1)) (p ∷ pending)
+abbrev pub Extended : Bool → Run → Pending → List Pending → WordRoom → Run → WordRoom → Type 0
+Extended true run p pending word = Leaves (countedOf run 1 0) (withWord (run .pending) (p .symbol ∷ wordOf pending) word)
+Extended false run p pending word = Leaves (countedOf run 6 (run .pending + 1)) (withPending (run .pending) (p ∷ pending) word)
 
 -- these cases are pending in place of `before` ones, and how many they are
-pub record Pends (before : ℕ) (pending : List Pending) (count : ℕ) (cases symbols cases′ symbols′ : List ℕ) : Type 0 where
+pub record Pends (before : ℕ) (pending : List Pending) (count : ℕ) (word word′ : WordRoom) : Type 0 where
   pub counted : count ≡ length pending
-  pub new-cases : cases′ ≡ placed before (columnBack caseOf pending) cases
-  pub new-symbols : symbols′ ≡ placed before (columnBack symbolOf pending) symbols
+  pub word-is : word′ ≡ withPending before pending word
 
 -- what a block needs of the record: the counts have room
 pub record Countable (run : Run) (hinted : ℕ) : Type 0 where

@@ -2,10 +2,9 @@
 use crate::record::Record;
 ghost use mathlib.Core.Path.{_≡_};
 ghost use Rattle.automata.specs.Image.{check};
-ghost use Rattle.machine.specs.Lent.{roomOf};
+ghost use Rattle.machine.specs.Lending.{lentBefore};
 ghost use Rattle.machine.specs.Runs.{unknownWay, checkTerms};
 ghost use Rattle.machine.specs.Records.{broken as isBroken};
-ghost use Rattle.checker.specs.Stage.{lentOf};
 ghost use Rattle.checker.specs.Calls.{recordAs};
 
 // 0, or 37 where the way is neither 0 nor 1.
@@ -31,7 +30,7 @@ pub(crate) fn check_terms(
     edition: u64,
     way: u64,
 ) -> u8
-    ensures { λ r. ⌜ r ≡ checkTerms (lentOf (roomOf (now (masks .entry)) (now (levels .entry)) (now (entered .entry))) (now (cases .entry)) (now (symbols .entry))) (now (hints .entry)) edition way 0 ⌝ }
+    ensures { λ r. ⌜ r ≡ checkTerms (lentBefore masks levels entered cases symbols) (now (hints .entry)) edition way 0 ⌝ }
 {
     if masks.len() != levels.len() {
         return 30;

@@ -16,20 +16,22 @@ ghost use Rattle.lists.specs.Tests.{choose};
 ghost use Rattle.masks.specs.Sets.{subset as isSubset};
 ghost use Rattle.automata.specs.Answers.{ReadAs};
 ghost use Rattle.machine.specs.Machine.{finalPending, pendingAfter, blockStep, wordOf, step as machineStep};
-ghost use Rattle.machine.specs.Lent.{roomOf, unstampedRoom, blockersFrom, blockersIn, pendingFirst};
+ghost use Rattle.machine.specs.Lent.{blockersFrom, pendingFirst, withPending, withWord};
+ghost use Rattle.machine.specs.Lending.{roomNow, roomBefore, roomAfter, unstampedBefore, blockersBefore, wordNow, wordBefore, wordAfter};
 ghost use Rattle.machine.specs.Runs.{systemOf, stepGiven};
 ghost use Rattle.machine.specs.Records.{workingStep};
 ghost use Rattle.blockers.specs.Room.{Holds, HoldsRoom};
 ghost use Rattle.choices.specs.Found.{choiceOf};
 ghost use Rattle.pending.specs.Room.{Holds as HoldsWord};
-ghost use Rattle.checker.specs.Stage.{stage, wentOn, choicesOf, madeBy, blockOf, Ready, leftOf, countedOf, Leaves, LeavesPending, Opened, Unpends, Extended, ClosesLevel, Pends, Countable};
+ghost use Rattle.checker.specs.Stage.{wentOn, choicesOf, madeBy, blockOf, Ready, leftOf, countedOf, Leaves, Opened, Unpends, Extended, ClosesLevel, Pends, Countable};
+ghost use Rattle.checker.specs.Moments.{stageNow, stageBefore, stageAfter};
 
 // The run ends without a verdict, under the number of what it lacks: nothing stays pending.
 fn stop(cases: &mut [u64], symbols: &mut [u8], run: Run, number: u8) -> Run
-    requires { ⌜ HoldsWord (run .pending) (now cases) (now symbols) ⌝ }
-    ensures { λ r. ⌜ Leaves run (leftOf run number 0) [] [] r (now (cases .entry)) (now (symbols .entry)) (now (cases .exit)) (now (symbols .exit)) ⌝ }
+    requires { ⌜ HoldsWord (run .pending) (wordNow cases symbols) ⌝ }
+    ensures { λ r. ⌜ Leaves (leftOf run number 0) (withWord (run .pending) [] (wordBefore cases symbols)) r (wordAfter cases symbols) ⌝ }
 {
-    pending::clear(cases, symbols, run.pending);
+    pending::clear_first(cases, symbols, run.pending);
     run.left(number, 0)
 }
 
@@ -43,8 +45,8 @@ fn pend_final(
     cases: &mut [u64],
     symbols: &mut [u8],
 ) -> usize
-    requires { ⌜ HoldsWord 1 (now cases) (now symbols) ⌝ }
-    ensures { λ r. ⌜ Pends 0 (finalPending initial (finals ∷ []) (blockersIn (now (masks .entry)) (now (levels .entry))) (level .0)) r (now (cases .entry)) (now (symbols .entry)) (now (cases .exit)) (now (symbols .exit)) ⌝ }
+    requires { ⌜ HoldsWord 1 (wordNow cases symbols) ⌝ }
+    ensures { λ r. ⌜ Pends 0 (finalPending initial (finals ∷ []) (blockersBefore masks levels) (level .0)) r (wordBefore cases symbols) (wordAfter cases symbols) ⌝ }
 {
     if blockers::reasons::why(initial, masks, levels, level, finals).is_there() {
         return 0;
@@ -64,8 +66,9 @@ fn pend_after(
     symbols: &mut [u8],
     rest: usize,
 ) -> usize
-    requires { ⌜ HoldsWord (rest + 1) (now cases) (now symbols) ⌝ }
-    ensures { λ r. ⌜ Pends rest (pendingAfter initial (finals ∷ []) (blockersIn (now (masks .entry)) (now (levels .entry))) (level .0) (pendingFirst (now (cases .entry)) (now (symbols .entry)) rest)) r (now (cases .entry)) (now (symbols .entry)) (now (cases .exit)) (now (symbols .exit)) ⌝ }
+    requires { ⌜ HoldsWord (rest + 1) (wordNow cases symbols) ⌝ }
+    ensures { λ r. ⌜ Pends rest (pendingAfter initial (finals ∷ []) (blockersBefore masks levels) (level .0)
+        (pendingFirst (wordBefore cases symbols) rest)) r (wordBefore cases symbols) (wordAfter cases symbols) ⌝ }
 {
     if rest == 0 {
         return pend_final(initial, finals, masks, levels, level, cases, symbols);
@@ -82,8 +85,11 @@ fn open_level(
     symbols: &mut [u8],
     run: Run,
 ) -> Run
-    requires { ⌜ Holds (run .held) (now masks) (now levels) × (length (now cases) ≡ length (now symbols)) × (length (now cases) ≤ 65536) × (run .pending ≡ 0) × (run .steps < 18446744073709551615) ⌝ }
-    ensures { λ r. ⌜ Opened (ltb (run .level .0) (length (now (cases .entry)))) run (finalPending (head .initial) (head .finals ∷ []) (blockersFrom (unstampedRoom (now (masks .entry)) (now (levels .entry))) (run .held) 0) (run .level .0 + 1)) r (now (cases .entry)) (now (symbols .entry)) (now (cases .exit)) (now (symbols .exit)) ⌝ }
+    requires { ⌜ Holds (run .held) (now masks) (now levels) × (length (now cases) ≡ length (now symbols))
+        × (length (now cases) ≤ 65536) × (run .pending ≡ 0) × (run .steps < 18446744073709551615) ⌝ }
+    ensures { λ r. ⌜ Opened (ltb (run .level .0) (length (now (cases .entry)))) run
+        (finalPending (head .initial) (head .finals ∷ []) (blockersFrom (unstampedBefore masks levels) (run .held) 0) (run .level .0 + 1))
+        (wordBefore cases symbols) r (wordAfter cases symbols) ⌝ }
 {
     let level = run.level;
     if cases.len() <= level.0 as usize {
@@ -108,8 +114,10 @@ fn open_level(
 
 // The backward set of the lowest pending case contains I: the run ends with the word.
 fn find_word(cases: &mut [u64], symbols: &mut [u8], run: Run, symbol: Symbol) -> Run
-    requires { ⌜ HoldsWord (run .pending) (now cases) (now symbols) × (1 ≤ run .pending) × (run .steps < 18446744073709551615) ⌝ }
-    ensures { λ r. ⌜ Leaves run (countedOf run 1 0) [] (symbol .0 ∷ wordOf (pendingFirst (now (cases .entry)) (now (symbols .entry)) (run .pending))) r (now (cases .entry)) (now (symbols .entry)) (now (cases .exit)) (now (symbols .exit)) ⌝ }
+    requires { ⌜ HoldsWord (run .pending) (wordNow cases symbols) × (1 ≤ run .pending) × (run .steps < 18446744073709551615) ⌝ }
+    ensures { λ r. ⌜ Leaves (countedOf run 1 0)
+        (withWord (run .pending) (symbol .0 ∷ wordOf (pendingFirst (wordBefore cases symbols) (run .pending)))
+        (wordBefore cases symbols)) r (wordAfter cases symbols) ⌝ }
 {
     pending::write_word(cases, symbols, run.pending, symbol);
     run.counted(1, 0)
@@ -117,8 +125,10 @@ fn find_word(cases: &mut [u64], symbols: &mut [u8], run: Run, symbol: Symbol) ->
 
 // The backward set becomes pending, below the others.
 fn pend_more(cases: &mut [u64], symbols: &mut [u8], run: Run, symbol: Symbol, case: u64) -> Run
-    requires { ⌜ HoldsWord (run .pending + 1) (now cases) (now symbols) × (run .steps < 18446744073709551615) ⌝ }
-    ensures { λ r. ⌜ LeavesPending run (countedOf run 6 (run .pending + 1)) (record { case = case; symbol = symbol .0 } ∷ pendingFirst (now (cases .entry)) (now (symbols .entry)) (run .pending)) r (now (cases .entry)) (now (symbols .entry)) (now (cases .exit)) (now (symbols .exit)) ⌝ }
+    requires { ⌜ HoldsWord (run .pending + 1) (wordNow cases symbols) × (run .steps < 18446744073709551615) ⌝ }
+    ensures { λ r. ⌜ Leaves (countedOf run 6 (run .pending + 1))
+        (withPending (run .pending) (record { case = case; symbol = symbol .0 } ∷ pendingFirst (wordBefore cases symbols) (run .pending))
+        (wordBefore cases symbols)) r (wordAfter cases symbols) ⌝ }
 {
     let count = run.pending;
     pending::push(cases, symbols, count, case, symbol);
@@ -134,8 +144,10 @@ fn extend(
     symbol: Symbol,
     case: u64,
 ) -> Run
-    requires { ⌜ HoldsWord (run .pending) (now cases) (now symbols) × (1 ≤ run .pending) × (run .steps < 18446744073709551615) × (isSubset initial case ≡ false → HoldsWord (run .pending + 1) (now cases) (now symbols)) ⌝ }
-    ensures { λ r. ⌜ Extended (isSubset initial case) run (record { case = case; symbol = symbol .0 }) (pendingFirst (now (cases .entry)) (now (symbols .entry)) (run .pending)) r (now (cases .entry)) (now (symbols .entry)) (now (cases .exit)) (now (symbols .exit)) ⌝ }
+    requires { ⌜ HoldsWord (run .pending) (wordNow cases symbols) × (1 ≤ run .pending) × (run .steps < 18446744073709551615)
+        × (isSubset initial case ≡ false → HoldsWord (run .pending + 1) (wordNow cases symbols)) ⌝ }
+    ensures { λ r. ⌜ Extended (isSubset initial case) run (record { case = case; symbol = symbol .0 }) (pendingFirst (wordBefore cases symbols) (run .pending))
+        (wordBefore cases symbols) r (wordAfter cases symbols) ⌝ }
 {
     if masks::subset(initial, case) {
         return find_word(cases, symbols, run, symbol);
@@ -154,8 +166,11 @@ fn unpend(
     held: usize,
     hinted: u64,
 ) -> Run
-    requires { ⌜ Holds held (now masks) (now levels) × HoldsWord (run .pending) (now cases) (now symbols) × (1 ≤ run .pending) × Countable run hinted ⌝ }
-    ensures { λ r. ⌜ Unpends run held hinted (pendingAfter (head .initial) (head .finals ∷ []) (blockersFrom (unstampedRoom (now (masks .entry)) (now (levels .entry))) held 0) (run .level .0) (pendingFirst (now (cases .entry)) (now (symbols .entry)) (run .pending - 1))) r (now (cases .entry)) (now (symbols .entry)) (now (cases .exit)) (now (symbols .exit)) ⌝ }
+    requires { ⌜ Holds held (now masks) (now levels) × HoldsWord (run .pending) (wordNow cases symbols) × (1 ≤ run .pending) × Countable run hinted ⌝ }
+    ensures { λ r. ⌜ Unpends run held hinted
+        (pendingAfter (head .initial) (head .finals ∷ []) (blockersFrom (unstampedBefore masks levels) held 0) (run .level .0)
+        (pendingFirst (wordBefore cases symbols) (run .pending - 1)))
+        (wordBefore cases symbols) r (wordAfter cases symbols) ⌝ }
 {
     let rest = run.pending - 1;
     pending::pop(cases, symbols, run.pending);
@@ -174,7 +189,7 @@ fn unpend(
 }
 
 // The chosen set enters one level above `below`, if there is a place for it, and the pending case of the lowest level is no longer pending.
-fn enter(
+fn enter_chosen(
     head: Head,
     masks: &mut [u64],
     levels: &mut [u32],
@@ -185,10 +200,10 @@ fn enter(
     below: Level,
     choice: Choice,
 ) -> Run
-    requires { ⌜ Ready (stage (roomOf (now masks) (now levels) (now entered)) (now cases) (now symbols) run) × (1 ≤ run .pending) × (below .0 < 65536) × Countable run (choice .hinted) ⌝ }
-    ensures { λ r. ⌜ stage (roomOf (now (masks .exit)) (now (levels .exit)) (now (entered .exit))) (now (cases .exit)) (now (symbols .exit)) r
-        ≡ madeBy (λ c. blockStep (head .initial) (head .finals ∷ []) c (pendingFirst (now (cases .entry)) (now (symbols .entry)) (run .pending - 1)) (below .0) (choiceOf choice))
-        (stage (roomOf (now (masks .entry)) (now (levels .entry)) (now (entered .entry))) (now (cases .entry)) (now (symbols .entry)) run) ⌝ }
+    requires { ⌜ Ready (stageNow masks levels entered cases symbols run) × (1 ≤ run .pending) × (below .0 < 65536) × Countable run (choice .hinted) ⌝ }
+    ensures { λ r. ⌜ stageAfter masks levels entered cases symbols r
+        ≡ madeBy (λ c. blockStep (head .initial) (head .finals ∷ []) c (pendingFirst (wordBefore cases symbols) (run .pending - 1)) (below .0) (choiceOf choice))
+        (stageBefore masks levels entered cases symbols run) ⌝ }
 {
     let answer = blockers::enter(
         masks,
@@ -229,10 +244,10 @@ fn block(
     below: Level,
     x: u64,
 ) -> Run
-    requires { ⌜ ReadAs (now image) head × Ready (stage (roomOf (now masks) (now levels) (now entered)) (now cases) (now symbols) run) × (1 ≤ run .pending) × (below .0 < 65536) × (run .steps < 18446744073709551615) ⌝ }
-    ensures { λ r. ⌜ stage (roomOf (now (masks .exit)) (now (levels .exit)) (now (entered .exit))) (now (cases .exit)) (now (symbols .exit)) r
-        ≡ madeBy (blockOf (now (image .entry)) (now (hints .entry)) way (pendingFirst (now (cases .entry)) (now (symbols .entry)) (run .pending - 1)) (below .0) x)
-        (stage (roomOf (now (masks .entry)) (now (levels .entry)) (now (entered .entry))) (now (cases .entry)) (now (symbols .entry)) run) ⌝ }
+    requires { ⌜ ReadAs (now image) head × Ready (stageNow masks levels entered cases symbols run) × (1 ≤ run .pending) × (below .0 < 65536) × (run .steps < 18446744073709551615) ⌝ }
+    ensures { λ r. ⌜ stageAfter masks levels entered cases symbols r
+        ≡ madeBy (blockOf (now (image .entry)) (now (hints .entry)) way (pendingFirst (wordBefore cases symbols) (run .pending - 1)) (below .0) x)
+        (stageBefore masks levels entered cases symbols run) ⌝ }
 {
     let held = run.held;
     let choice = choices::choose_set(
@@ -246,7 +261,7 @@ fn block(
         run.blocks,
         way,
     );
-    enter(
+    enter_chosen(
         head,
         masks,
         levels,
@@ -272,10 +287,10 @@ fn work(
     way: u64,
     run: Run,
 ) -> Run
-    requires { ⌜ ReadAs (now image) head × Ready (stage (roomOf (now masks) (now levels) (now entered)) (now cases) (now symbols) run) × (1 ≤ run .pending) × (run .steps < 18446744073709551615) ⌝ }
-    ensures { λ r. ⌜ stage (roomOf (now (masks .exit)) (now (levels .exit)) (now (entered .exit))) (now (cases .exit)) (now (symbols .exit)) r
+    requires { ⌜ ReadAs (now image) head × Ready (stageNow masks levels entered cases symbols run) × (1 ≤ run .pending) × (run .steps < 18446744073709551615) ⌝ }
+    ensures { λ r. ⌜ stageAfter masks levels entered cases symbols r
         ≡ madeBy (machineStep (systemOf (now (image .entry))) (choicesOf (now (image .entry)) (now (hints .entry)) way))
-        (stage (roomOf (now (masks .entry)) (now (levels .entry)) (now (entered .entry))) (now (cases .entry)) (now (symbols .entry)) run) ⌝ }
+        (stageBefore masks levels entered cases symbols run) ⌝ }
 {
     let x = cases[run.pending - 1];
     let below = Level(run.level.0 - run.pending as u32);
@@ -316,8 +331,8 @@ fn close_level(
     entered: &mut [u64],
     run: Run,
 ) -> Run
-    requires { ⌜ ReadAs (now image) head × HoldsRoom (run .held) (roomOf (now masks) (now levels) (now entered)) × (run .level .0 < 4294967295) × (run .steps < 18446744073709551615) ⌝ }
-    ensures { λ r. ⌜ ClosesLevel (systemOf (now (image .entry))) run r (roomOf (now (masks .entry)) (now (levels .entry)) (now (entered .entry))) (roomOf (now (masks .exit)) (now (levels .exit)) (now (entered .exit))) ⌝ }
+    requires { ⌜ ReadAs (now image) head × HoldsRoom (run .held) (roomNow masks levels entered) × (run .level .0 < 4294967295) × (run .steps < 18446744073709551615) ⌝ }
+    ensures { λ r. ⌜ ClosesLevel (systemOf (now (image .entry))) run r (roomBefore masks levels entered) (roomAfter masks levels entered) ⌝ }
 {
     let level = run.level;
     let closed = closing::close(image, head, masks, levels, entered, run.held, level);
@@ -329,7 +344,7 @@ fn close_level(
 
 // One step of a run that works: the allowance is tested, then the room that the step needs. A pending case is worked on first; with none, an open level
 // is closed; else a level is opened.
-fn step(
+fn working_step(
     image: &[u8],
     head: Head,
     masks: &mut [u64],
@@ -342,9 +357,10 @@ fn step(
     allowance: u64,
     way: u64,
 ) -> Run
-    requires { ⌜ ReadAs (now image) head × Ready (stage (roomOf (now masks) (now levels) (now entered)) (now cases) (now symbols) run) ⌝ }
-    ensures { λ r. ⌜ stage (roomOf (now (masks .exit)) (now (levels .exit)) (now (entered .exit))) (now (cases .exit)) (now (symbols .exit)) r
-        ≡ workingStep (now (image .entry)) (stepGiven (now (image .entry)) (now (hints .entry)) allowance way) (stage (roomOf (now (masks .entry)) (now (levels .entry)) (now (entered .entry))) (now (cases .entry)) (now (symbols .entry)) run) ⌝ }
+    requires { ⌜ ReadAs (now image) head × Ready (stageNow masks levels entered cases symbols run) ⌝ }
+    ensures { λ r. ⌜ stageAfter masks levels entered cases symbols r
+        ≡ workingStep (now (image .entry)) (stepGiven (now (image .entry)) (now (hints .entry)) allowance way)
+        (stageBefore masks levels entered cases symbols run) ⌝ }
 {
     if allowance <= run.steps {
         return stop(cases, symbols, run, 2);
@@ -384,14 +400,15 @@ pub(crate) fn go_on(
     way: u64,
     more: u64,
 ) -> Run
-    requires { ⌜ ReadAs (now image) head × (run .answer ≡ 6 → Ready (stage (roomOf (now masks) (now levels) (now entered)) (now cases) (now symbols) run)) ⌝ }
-    ensures { λ r. ⌜ stage (roomOf (now (masks .exit)) (now (levels .exit)) (now (entered .exit))) (now (cases .exit)) (now (symbols .exit)) r
-        ≡ wentOn (now (image .entry)) (stepGiven (now (image .entry)) (now (hints .entry)) allowance way) (suc more) (stage (roomOf (now (masks .entry)) (now (levels .entry)) (now (entered .entry))) (now (cases .entry)) (now (symbols .entry)) run) ⌝ }
+    requires { ⌜ ReadAs (now image) head × (run .answer ≡ 6 → Ready (stageNow masks levels entered cases symbols run)) ⌝ }
+    ensures { λ r. ⌜ stageAfter masks levels entered cases symbols r
+        ≡ wentOn (now (image .entry)) (stepGiven (now (image .entry)) (now (hints .entry)) allowance way) (suc more)
+        (stageBefore masks levels entered cases symbols run) ⌝ }
 {
     let mut next = run;
     let mut left = more;
     while next.answer == 6 {
-        next = step(
+        next = working_step(
             image,
             head,
             masks,

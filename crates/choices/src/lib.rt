@@ -11,7 +11,7 @@ ghost use Rattle.lists.specs.Lists.{firstFrom};
 ghost use Rattle.automata.specs.Image.{symbolsOf, rowsOf};
 ghost use Rattle.automata.specs.Answers.{ReadAs};
 ghost use Rattle.machine.specs.Machine.{qualifies, chosenFrom, hintAt};
-ghost use Rattle.machine.specs.Lent.{blockersIn};
+ghost use Rattle.machine.specs.Lending.{blockersBefore};
 ghost use Rattle.machine.specs.Runs.{systemOf};
 ghost use Rattle.machine.specs.Hitting.{growthOf};
 ghost use Rattle.choices.specs.Found.{foundOf, choiceOf};
@@ -39,7 +39,7 @@ pub fn first_symbol(
 ) -> Found
     requires { ⌜ ReadAs (now image) head × (length (now masks) ≡ length (now levels)) ⌝ }
     ensures { λ r. ⌜ r ≡ foundOf (systemOf (now (image .entry))) x
-        (firstFrom (qualifies (systemOf (now (image .entry))) (blockersIn (now (masks .entry)) (now (levels .entry))) (below .0) x)
+        (firstFrom (qualifies (systemOf (now (image .entry))) (blockersBefore masks levels) (below .0) x)
         (symbolsOf (now (image .entry))) 0) ⌝ }
 {
     'symbols: for s in 0..head.symbols {
@@ -78,7 +78,7 @@ fn grow(
 ) -> u64
     requires { ⌜ ReadAs (now image) head ⌝ }
     ensures { λ r. ⌜ r ≡ growthOf way (systemOf (now (image .entry))) (rowsOf (now (image .entry)))
-        (blockersIn (now (masks .entry)) (now (levels .entry))) (below .0) x ⌝ }
+        (blockersBefore masks levels) (below .0) x ⌝ }
 {
     if way == 0 {
         return growing::by_states(image, head, masks, levels, below, x);
@@ -100,7 +100,7 @@ pub fn choose_set(
 ) -> Choice
     requires { ⌜ ReadAs (now image) head ⌝ }
     ensures { λ r. ⌜ choiceOf r ≡ chosenFrom (systemOf (now (image .entry))) (growthOf way (systemOf (now (image .entry))) (rowsOf (now (image .entry))))
-        (blockersIn (now (masks .entry)) (now (levels .entry))) (below .0) x (hintAt (now (hints .entry)) blocks) ⌝ }
+        (blockersBefore masks levels) (below .0) x (hintAt (now (hints .entry)) blocks) ⌝ }
 {
     let number = blocks as usize;
     if hints.len() <= number {

@@ -7,7 +7,7 @@ use blockers::sizes;
 ghost use Prim.Native.Nat.{_≤_, _<_};
 ghost use lib.ListN.{length};
 ghost use Rattle.automata.specs.Answers.{ReadAs};
-ghost use Rattle.machine.specs.Lent.{roomOf};
+ghost use Rattle.machine.specs.Lending.{roomNow, roomBefore, roomAfter};
 ghost use Rattle.blockers.specs.Room.{HoldsRoom, tableOf};
 ghost use Rattle.machine.specs.Runs.{systemOf};
 ghost use Rattle.rising.specs.Risen.{risenBy, Becomes};
@@ -47,9 +47,9 @@ fn rise_all(
     held: usize,
     top: Level,
 ) -> usize
-    requires { ⌜ ReadAs (now image) head × HoldsRoom held (roomOf (now masks) (now levels) (now entered)) × (top .0 < 4294967295) ⌝ }
-    ensures { λ r. ⌜ Becomes held (risenBy (systemOf (now (image .entry))) (top .0) (tableOf held (roomOf (now (masks .entry)) (now (levels .entry)) (now (entered .entry)))))
-        (roomOf (now (masks .entry)) (now (levels .entry)) (now (entered .entry))) r (roomOf (now (masks .exit)) (now (levels .exit)) (now (entered .exit))) ⌝ }
+    requires { ⌜ ReadAs (now image) head × HoldsRoom held (roomNow masks levels entered) × (top .0 < 4294967295) ⌝ }
+    ensures { λ r. ⌜ Becomes held (risenBy (systemOf (now (image .entry))) (top .0) (tableOf held (roomBefore masks levels entered)))
+        (roomBefore masks levels entered) r (roomAfter masks levels entered) ⌝ }
 {
     if !is_indexed(levels, held) {
         return rising::rise_levels(image, head, masks, levels, entered, held, top);
@@ -68,9 +68,9 @@ pub fn close(
     held: usize,
     top: Level,
 ) -> Closed
-    requires { ⌜ ReadAs (now image) head × HoldsRoom held (roomOf (now masks) (now levels) (now entered)) × (top .0 < 4294967295) ⌝ }
+    requires { ⌜ ReadAs (now image) head × HoldsRoom held (roomNow masks levels entered) × (top .0 < 4294967295) ⌝ }
     ensures { λ r. ⌜ Closes (systemOf (now (image .entry))) (top .0) held
-        (roomOf (now (masks .entry)) (now (levels .entry)) (now (entered .entry))) r (roomOf (now (masks .exit)) (now (levels .exit)) (now (entered .exit))) ⌝ }
+        (roomBefore masks levels entered) r (roomAfter masks levels entered) ⌝ }
 {
     let count = rise_all(image, head, masks, levels, entered, held, top);
     let Lowest::At(level) = vacancy::lowest_none(&levels[..count], top) else {

@@ -10,7 +10,8 @@ ghost use mathlib.Core.Bool.{true};
 ghost use Prim.Native.Nat.{_-_, _≤_, _<_};
 ghost use lib.ListN.{length};
 ghost use Rattle.machine.specs.Machine.{blocked, settled as isSettled};
-ghost use Rattle.machine.specs.Lent.{blockerAt, unstampedRoom, blockersIn};
+ghost use Rattle.machine.specs.Lent.{blockerAt};
+ghost use Rattle.machine.specs.Lending.{unstampedBefore, blockersNow, blockersBefore};
 ghost use Rattle.covering.specs.Listed.{oneHolds, ListedOne, Listed};
 
 // The mask of the blocker at the place joins the list that ends at `end` if it covers p; answers where the list then ends, or a place beyond the table if that is
@@ -25,7 +26,7 @@ fn list_one(
     place: usize,
 ) -> usize
     requires { ⌜ (place < length (now masks)) × (place < length (now levels)) × (length (now near) < 65535) × (end ≤ 65535) ⌝ }
-    ensures { λ r. ⌜ ListedOne (below .0) p (blockerAt (unstampedRoom (now (masks .entry)) (now (levels .entry))) place) (now (near .entry)) (now (near .exit)) end r ⌝ }
+    ensures { λ r. ⌜ ListedOne (below .0) p (blockerAt (unstampedBefore masks levels) place) (now (near .entry)) (now (near .exit)) end r ⌝ }
 {
     if near.len() <= end {
         return 65535;
@@ -47,7 +48,7 @@ fn list_covers(
     start: usize,
 ) -> usize
     requires { ⌜ (start ≤ length (now near)) × (length (now near) < 65535) ⌝ }
-    ensures { λ r. ⌜ Listed (blockersIn (now (masks .entry)) (now (levels .entry))) (below .0) p (now (near .entry)) (now (near .exit)) start r ⌝ }
+    ensures { λ r. ⌜ Listed (blockersBefore masks levels) (below .0) p (now (near .entry)) (now (near .exit)) start r ⌝ }
 {
     let count = count_in(masks, levels);
     let mut end = start;
@@ -72,7 +73,7 @@ pub fn list_on(
     start: usize,
 ) -> usize
     requires { ⌜ length (now near) < 65535 ⌝ }
-    ensures { λ r. ⌜ Listed (blockersIn (now (masks .entry)) (now (levels .entry))) (below .0) p (now (near .entry)) (now (near .exit)) start r ⌝ }
+    ensures { λ r. ⌜ Listed (blockersBefore masks levels) (below .0) p (now (near .entry)) (now (near .exit)) start r ⌝ }
 {
     if near.len() < start {
         return start;
@@ -107,8 +108,8 @@ pub fn is_settled(
     from: usize,
     to: usize,
 ) -> bool
-    requires { ⌜ (to ≤ length (now near) → oneHolds (now near) from (to - from) p ≡ blocked initial (blockersIn (now masks) (now levels)) (below .0) p) ⌝ }
-    ensures { λ r. ⌜ r ≡ isSettled initial (blockersIn (now (masks .entry)) (now (levels .entry))) (below .0) y p ⌝ }
+    requires { ⌜ (to ≤ length (now near) → oneHolds (now near) from (to - from) p ≡ blocked initial (blockersNow masks levels) (below .0) p) ⌝ }
+    ensures { λ r. ⌜ r ≡ isSettled initial (blockersBefore masks levels) (below .0) y p ⌝ }
 {
     if masks::subset(p, y) {
         return true;
@@ -132,9 +133,9 @@ pub fn settled_anew(
     from: usize,
     to: usize,
 ) -> bool
-    requires { ⌜ (to ≤ length (now near) → oneHolds (now near) from (to - from) p ≡ blocked initial (blockersIn (now masks) (now levels)) (below .0) p)
-        × (p ≡ before → true ≡ isSettled initial (blockersIn (now masks) (now levels)) (below .0) y p) ⌝ }
-    ensures { λ r. ⌜ r ≡ isSettled initial (blockersIn (now (masks .entry)) (now (levels .entry))) (below .0) y p ⌝ }
+    requires { ⌜ (to ≤ length (now near) → oneHolds (now near) from (to - from) p ≡ blocked initial (blockersNow masks levels) (below .0) p)
+        × (p ≡ before → true ≡ isSettled initial (blockersNow masks levels) (below .0) y p) ⌝ }
+    ensures { λ r. ⌜ r ≡ isSettled initial (blockersBefore masks levels) (below .0) y p ⌝ }
 {
     if p == before {
         return true;

@@ -1,16 +1,6 @@
 // The program: reads an image from standard input, decides emptiness, and prints the five numbers of the run and then the frame or the word.
 // Proved of it is that it is safe and ends; what it prints is tried by running.
-use automata::image::Image;
-use blockers::Level;
-use checker::run::Counts;
-
-// The number of an image that was taken apart: 0 for one that holds an automaton.
-fn number_of(read: Image) -> u64 {
-    match read {
-        Image::Valid(_) => 0,
-        Image::Refused(number) => number as u64,
-    }
-}
+use checker::record::Run;
 
 // A number in decimal; one of 64 bits has at most 20 digits.
 fn print_number(number: u64) {
@@ -20,16 +10,16 @@ fn print_number(number: u64) {
 }
 
 // Line 1: the five numbers.
-fn print_counts(counts: Counts) {
-    print_number(counts.number);
+fn print_counts(run: Run) {
+    print_number(run.answer as u64);
     io::write_all(1, b" ");
-    print_number(counts.steps);
+    print_number(run.steps);
     io::write_all(1, b" ");
-    print_number(counts.level.0 as u64);
+    print_number(run.level.0 as u64);
     io::write_all(1, b" ");
-    print_number(counts.blockers);
+    print_number(run.held as u64);
     io::write_all(1, b" ");
-    print_number(counts.accepted);
+    print_number(run.accepted);
     io::write_all(1, b"\n");
 }
 
@@ -65,11 +55,11 @@ fn print_symbols(symbols: &[u8], count: u64) {
 }
 
 // Line 2: on 0 the frame's masks, which are the blockers held; on 1 the word, whose length is the level; else nothing.
-fn print_tables(counts: Counts, masks: &[u64], symbols: &[u8]) {
-    let number = counts.number;
+fn print_tables(run: Run, masks: &[u64], symbols: &[u8]) {
+    let number = run.answer;
     match number {
-        0 => print_masks(masks, counts.blockers),
-        1 => print_symbols(symbols, counts.level.0 as u64),
+        0 => print_masks(masks, run.held as u64),
+        1 => print_symbols(symbols, run.level.0 as u64),
         _ => {}
     }
     io::write_all(1, b"\n");
@@ -79,25 +69,13 @@ fn main() {
     // One byte more than the longest image has, so that a longer input is refused.
     let mut bytes = [0u8; 37397];
     let size = io::read_full(0, &mut bytes);
-    let read = automata::image::read_image(&bytes[..size]);
-    let Image::Valid(_head) = read else {
-        print_counts(Counts {
-            number: number_of(read),
-            steps: 0,
-            level: Level(0),
-            blockers: 0,
-            accepted: 0,
-        });
-        io::write_all(1, b"\n");
-        return;
-    };
     let mut masks = [0u64; 256];
     let mut levels = [0u32; 256];
     let mut entered = [0u64; 256];
     let mut cases = [0u64; 256];
     let mut symbols = [0u8; 256];
     let hints = [0u64; 0];
-    let counts = checker::run::run(
+    let run = checker::run::run(
         &bytes[..size],
         &mut masks,
         &mut levels,
@@ -109,6 +87,6 @@ fn main() {
         1,
         0,
     );
-    print_counts(counts);
-    print_tables(counts, &masks, &symbols);
+    print_counts(run);
+    print_tables(run, &masks, &symbols);
 }

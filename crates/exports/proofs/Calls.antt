@@ -6,14 +6,13 @@ use mathlib.Core.List.{List, [], _∷_}
 use borrow.Author.Tests.{eq-eqb, ne-eqb, lt-ltb, le-ltb}
 use lib.ListN.{getD}
 use Rattle.lists.specs.Tests.{_and_, choose}
-use Rattle.machine.specs.Lent.{BlockerRoom}
-use Rattle.machine.specs.Runs.{Terms}
-use Rattle.machine.specs.Records.{RunRecord, answering, stepOf}
+use Rattle.machine.specs.Lent.{BlockerRoom, WordRoom, lentOf}
+use Rattle.machine.specs.Runs.{Terms, RunRecord}
+use Rattle.machine.specs.Records.{answering, stepOf}
 use Rattle.machine.specs.Records as Machine
-use Rattle.checker.specs.Stage.{lentOf}
 use Rattle.checker.specs.Calls.{recordAs, stageAs, calledAs}
 use Rattle.checker.specs.declared.record.Record.{Record}
-use Rattle.checker.specs.declared.calls.Called.{Called}
+use Rattle.checker.specs.declared.step.Called.{Called}
 use Rattle.exports.specs.Interface.{numbersOf, recordFrom, numbersAfter, BeginGave, StepGave}
 
 module _ (left : Record) where
@@ -44,27 +43,26 @@ module _ (before : List ℕ) (number : ℕ) (run : RunRecord) where
   step-carries e l numbers q = q ∙ sym (rw (eq-eqb _ _ e, lt-ltb _ _ l))
 
 -- a begin's number is its record's answer
-pub begin-gave : (left : Record) (room : BlockerRoom) (cases symbols numbers : List ℕ) (called : Machine.Called)
-    → answering (stageAs room cases symbols left) ≡ called → numbers ≡ numbersOf (recordAs left) → BeginGave (left .answer) numbers room cases symbols called
-begin-gave left room cases symbols numbers called e q =
+pub begin-gave : (left : Record) (room : BlockerRoom) (word : WordRoom) (numbers : List ℕ) (called : Machine.Called)
+    → answering (stageAs room word left) ≡ called → numbers ≡ numbersOf (recordAs left) → BeginGave (left .answer) numbers (lentOf room word) called
+begin-gave left room word numbers called e q =
     record {
       numbered = ap (λ (x : Machine.Called). x .number) e;
       recorded = q ∙ ap (λ (x : Machine.Called). numbersOf (x .left .run)) e;
-      tables = ap (λ (x : Machine.Called). x .left .tables) e;
+      holds = ap (λ (x : Machine.Called). x .left .tables) e;
     }
 
 -- a step on the record that was read from eight numbers
-pub step-gave : (image : List ℕ) (terms : Terms) (room₀ : BlockerRoom) (cases₀ symbols₀ before : List ℕ) (from : Record) (made : Called) (room : BlockerRoom)
-    (cases symbols numbers : List ℕ) → recordAs from ≡ recordFrom before
-    → calledAs room cases symbols made ≡ stepOf image terms (stageAs room₀ cases₀ symbols₀ from)
+pub step-gave : (image : List ℕ) (terms : Terms) (room₀ : BlockerRoom) (word₀ : WordRoom) (before : List ℕ) (from : Record) (made : Called)
+    (room : BlockerRoom) (word : WordRoom) (numbers : List ℕ) → recordAs from ≡ recordFrom before
+    → calledAs room word made ≡ stepOf image terms (stageAs room₀ word₀ from)
     → numbers ≡ numbersAfter before (made .number) (recordAs (made .left))
-    → StepGave before (made .number) numbers room cases symbols
-    (stepOf image terms (record { tables = lentOf room₀ cases₀ symbols₀; run = recordFrom before }))
-step-gave image terms room₀ cases₀ symbols₀ before from made room cases symbols numbers read steps after =
-    let e : calledAs room cases symbols made ≡ stepOf image terms (record { tables = lentOf room₀ cases₀ symbols₀; run = recordFrom before })
-    = steps ∙ ap (λ (run : RunRecord). stepOf image terms (record { tables = lentOf room₀ cases₀ symbols₀; run = run })) read in
+    → StepGave before (made .number) numbers (lentOf room word) (stepOf image terms (record { tables = lentOf room₀ word₀; run = recordFrom before }))
+step-gave image terms room₀ word₀ before from made room word numbers read steps after =
+    let e : calledAs room word made ≡ stepOf image terms (record { tables = lentOf room₀ word₀; run = recordFrom before })
+    = steps ∙ ap (λ (run : RunRecord). stepOf image terms (record { tables = lentOf room₀ word₀; run = run })) read in
     record {
       numbered = ap (λ (x : Machine.Called). x .number) e;
       recorded = after ∙ ap (λ (x : Machine.Called). numbersAfter before (x .number) (x .left .run)) e;
-      tables = ap (λ (x : Machine.Called). x .left .tables) e;
+      holds = ap (λ (x : Machine.Called). x .left .tables) e;
     }

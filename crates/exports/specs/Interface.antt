@@ -1,4 +1,4 @@
--- What the C interface gives back: for a run 01's number, the counts beside it, and the lent tables; for begin and step the number, the record and the lent
+-- What the C interface gives back: for a run 01's five numbers and the lent tables; for begin and step the number, the record and the lent
 -- tables; for a reason its number and two values; for bytes the number, the length and the room.
 -- Assumes nothing: these are definitions.
 use Prim.Native.Nat.{ℕ}
@@ -8,21 +8,15 @@ use lib.Dec.{eqb, ltb}
 use lib.ListN.{getD}
 use Rattle.lists.specs.Tests.{_and_, neg, choose}
 use Rattle.writing.specs.Rooms.{Answer}
-use Rattle.machine.specs.Lent.{BlockerRoom}
+use Rattle.machine.specs.Lent.{Lent}
 use Rattle.machine.specs.Why.{Reason, byBlocker, byStart, nothing}
-use Rattle.machine.specs.Runs.{Result}
-use Rattle.machine.specs.Records.{RunRecord, Called}
-use Rattle.checker.specs.Stage.{lentOf}
+use Rattle.machine.specs.Runs.{RunRecord, Stage, fiveNumbers}
+use Rattle.machine.specs.Records.{Called}
 
--- steps, level, blockers held and hints accepted of a run's result
-unfoldable pub countsOf : Result → List ℕ
-countsOf result = result .steps ∷ result .level ∷ result .blockers ∷ result .accepted ∷ []
-
--- what a run gave back is its result: the number, the four counts, and what each table holds
-pub record Ran (number : ℕ) (counts : List ℕ) (room : BlockerRoom) (cases symbols : List ℕ) (result : Result) : Type 0 where
-  pub numbered : number ≡ result .number
-  pub counted : counts ≡ countsOf result
-  pub tables : lentOf room cases symbols ≡ result .tables
+-- what a run gave back is what it left: the number and the four counts beside it, and what each table holds
+pub record Ran (number : ℕ) (counts : List ℕ) (tables : Lent) (left : Stage) : Type 0 where
+  pub numbered : number ∷ counts ≡ fiveNumbers (left .run)
+  pub holds : tables ≡ left .tables
 
 -- a record as eight numbers, in 02's order: 1 where the level is open, else 0
 unfoldable pub numbersOf : RunRecord → List ℕ
@@ -48,17 +42,16 @@ unfoldable pub numbersAfter : List ℕ → ℕ → RunRecord → List ℕ
 numbersAfter before number run = choose (eqb (getD before 0 0) 6 and ltb number 20) (numbersOf run) before
 
 -- what a call gave back is this: its number, these eight numbers, and what each table holds
-pub record Gave (number : ℕ) (numbers expected : List ℕ) (room : BlockerRoom) (cases symbols : List ℕ) (called : Called) : Type 0 where
+pub record Gave (number : ℕ) (numbers expected : List ℕ) (tables : Lent) (called : Called) : Type 0 where
   pub numbered : number ≡ called .number
   pub recorded : numbers ≡ expected
-  pub tables : lentOf room cases symbols ≡ called .left .tables
+  pub holds : tables ≡ called .left .tables
 
-abbrev pub BeginGave : ℕ → List ℕ → BlockerRoom → List ℕ → List ℕ → Called → Type 0
-BeginGave number numbers room cases symbols called = Gave number numbers (numbersOf (called .left .run)) room cases symbols called
+abbrev pub BeginGave : ℕ → List ℕ → Lent → Called → Type 0
+BeginGave number numbers tables called = Gave number numbers (numbersOf (called .left .run)) tables called
 
-abbrev pub StepGave : List ℕ → ℕ → List ℕ → BlockerRoom → List ℕ → List ℕ → Called → Type 0
-StepGave before number numbers room cases symbols called =
-    Gave number numbers (numbersAfter before (called .number) (called .left .run)) room cases symbols called
+abbrev pub StepGave : List ℕ → ℕ → List ℕ → Lent → Called → Type 0
+StepGave before number numbers tables called = Gave number numbers (numbersAfter before (called .number) (called .left .run)) tables called
 
 -- which reason it is, and its values: a blocker's place and level, or a state and 0
 unfoldable pub reasonNumber : Reason → ℕ

@@ -2,17 +2,17 @@
 use automata::image::Image;
 use blockers::Level;
 use blockers::reasons::Reason;
-use checker::calls::Called;
 use checker::record::Record;
+use checker::step::Called;
 ghost use mathlib.Core.Path.{_≡_};
 ghost use Rattle.automata.specs.Answers.{readImage, imageNumber, headAfter};
 ghost use Rattle.automata.specs.WordTest.{wordTest};
 ghost use Rattle.machine.specs.Print.{printRun};
-ghost use Rattle.machine.specs.Lent.{roomOf, blockersIn};
+ghost use Rattle.machine.specs.Lending.{blockersBefore, lentBefore, lentAfter};
 ghost use Rattle.machine.specs.Why.{why};
 ghost use Rattle.machine.specs.Runs.{runOf};
 ghost use Rattle.machine.specs.Records.{beginOf, stepOf};
-ghost use Rattle.checker.specs.Stage.{lentOf, termsOf};
+ghost use Rattle.checker.specs.Stage.{termsOf};
 ghost use Rattle.checker.specs.Calls.{recordAs};
 ghost use Rattle.exports.specs.Interface.{Wrote, Ran, Told, numbersOf, recordFrom, numbersAfter, BeginGave, StepGave};
 
@@ -76,8 +76,8 @@ pub extern "C" fn afa_run(
     way: u64,
     counts: &mut [u64; 4],
 ) -> u64
-    ensures { λ r. ⌜ Ran r (now (counts .exit)) (roomOf (now (masks .exit)) (now (levels .exit)) (now (entered .exit))) (now (cases .exit)) (now (symbols .exit))
-        (runOf (now (image .entry)) (lentOf (roomOf (now (masks .entry)) (now (levels .entry)) (now (entered .entry))) (now (cases .entry)) (now (symbols .entry))) (termsOf (now (hints .entry)) allowance edition way)) ⌝ }
+    ensures { λ r. ⌜ Ran r (now (counts .exit)) (lentAfter masks levels entered cases symbols)
+        (runOf (now (image .entry)) (lentBefore masks levels entered cases symbols) (termsOf (now (hints .entry)) allowance edition way)) ⌝ }
 {
     let made = checker::run::run(
         image,
@@ -94,10 +94,10 @@ pub extern "C" fn afa_run(
     *counts = [
         made.steps,
         made.level.0 as u64,
-        made.blockers,
+        made.held as u64,
         made.accepted,
     ];
-    made.number
+    made.answer as u64
 }
 
 // The eight numbers of a record.
@@ -164,10 +164,10 @@ pub extern "C" fn afa_begin(
     way: u64,
     numbers: &mut [u64; 8],
 ) -> u64
-    ensures { λ r. ⌜ BeginGave r (now (numbers .exit)) (roomOf (now (masks .exit)) (now (levels .exit)) (now (entered .exit))) (now (cases .exit)) (now (symbols .exit))
-        (beginOf (now (image .entry)) (lentOf (roomOf (now (masks .entry)) (now (levels .entry)) (now (entered .entry))) (now (cases .entry)) (now (symbols .entry))) (termsOf (now (hints .entry)) 0 edition way)) ⌝ }
+    ensures { λ r. ⌜ BeginGave r (now (numbers .exit)) (lentAfter masks levels entered cases symbols)
+        (beginOf (now (image .entry)) (lentBefore masks levels entered cases symbols) (termsOf (now (hints .entry)) 0 edition way)) ⌝ }
 {
-    let left = checker::calls::begin(
+    let left = checker::begin::begin(
         image,
         masks,
         levels,
@@ -197,11 +197,12 @@ pub extern "C" fn afa_step(
     way: u64,
     numbers: &mut [u64; 8],
 ) -> u64
-    ensures { λ r. ⌜ StepGave (now (numbers .entry)) r (now (numbers .exit)) (roomOf (now (masks .exit)) (now (levels .exit)) (now (entered .exit))) (now (cases .exit)) (now (symbols .exit))
-        (stepOf (now (image .entry)) (termsOf (now (hints .entry)) allowance edition way) (record { tables = lentOf (roomOf (now (masks .entry)) (now (levels .entry)) (now (entered .entry))) (now (cases .entry)) (now (symbols .entry)); run = recordFrom (now (numbers .entry)) })) ⌝ }
+    ensures { λ r. ⌜ StepGave (now (numbers .entry)) r (now (numbers .exit)) (lentAfter masks levels entered cases symbols)
+        (stepOf (now (image .entry)) (termsOf (now (hints .entry)) allowance edition way)
+        (record { tables = lentBefore masks levels entered cases symbols; run = recordFrom (now (numbers .entry)) })) ⌝ }
 {
     let before = *numbers;
-    let called = checker::calls::step(
+    let called = checker::step::step(
         image,
         masks,
         levels,
@@ -229,7 +230,7 @@ pub extern "C" fn afa_why(
     case: u64,
     found: &mut [u64; 2],
 ) -> u64
-    ensures { λ r. ⌜ Told r (now (found .exit)) (why initial (blockersIn (now (masks .entry)) (now (levels .entry))) level case) ⌝ }
+    ensures { λ r. ⌜ Told r (now (found .exit)) (why initial (blockersBefore masks levels) level case) ⌝ }
 {
     *found = [0, 0];
     if 4294967295 < level {

@@ -38,13 +38,13 @@ places image row (suc count) at m = from (λ k. places image row count (at + 9) 
         let z : at + 9 * suc (r .number) ≡ at + 9 + 9 * r .number = omega arith in
         record { number = suc (r .number); few = omega (arith, r .few); is = rw z (r .is) }
 
-placed : (image : List ℕ) (number count at : ℕ) → number < count → rowAt image (at + 9 * number) ∈ rowsFrom image count at
+row-listed : (image : List ℕ) (number count at : ℕ) → number < count → rowAt image (at + 9 * number) ∈ rowsFrom image count at
 unfolding rowsFrom
-placed image number zero at l = absurd (omega arith)
-placed image zero (suc count) at l = let z : at + 9 * 0 ≡ at = omega arith in here (ap (rowAt image) z)
-placed image (suc number) (suc count) at l =
+row-listed image number zero at l = absurd (omega arith)
+row-listed image zero (suc count) at l = let z : at + 9 * 0 ≡ at = omega arith in here (ap (rowAt image) z)
+row-listed image (suc number) (suc count) at l =
     let z : at + 9 * suc number ≡ at + 9 + 9 * number = omega arith in
-    there (subst (λ (p : ℕ). rowAt image p ∈ rowsFrom image count (at + 9)) (sym z) (placed image number count (at + 9) (omega arith)))
+    there (subst (λ (p : ℕ). rowAt image p ∈ rowsFrom image count (at + 9)) (sym z) (row-listed image number count (at + 9) (omega arith)))
 
 -- the last span ends at the image's end
 pub spans-end : (image : List ℕ) → Valid image → spanStart image (symbolsOf image) ≡ length image
@@ -86,7 +86,7 @@ module _ (image : List ℕ) (valid : Valid image) where
         let e : offsetOf image s + 9 * number ≡ placeOf image r = omega (arith, nine .0, nine .1, begins, belongs .from) in
         let few : number < sizeOf image s / 9 = omega (arith, e, belongs .to, span-after image s, span-nines image valid s (belongs .known)) in
         rw (rows-of-symbol image s (belongs .known)) (subst (λ (at : ℕ). rowAt image at ∈ rowsFrom image (sizeOf image s / 9) (offsetOf image s)) e
-        (placed image number (sizeOf image s / 9) (offsetOf image s) few))
+        (row-listed image number (sizeOf image s / 9) (offsetOf image s) few))
 
     pub belongs-few : r < rowCountOf image
     belongs-few =

@@ -24,7 +24,7 @@ use Rattle.machine.specs.Machine as Machine
 use Rattle.covering.specs.Listed.{oneHolds, Listed}
 use Rattle.growing.specs.Near.{Tells, firstPlace}
 use Rattle.firing.specs.Linked.{Linked}
-use Rattle.growing.specs.Kept.{SymbolRoom, Begun}
+use Rattle.growing.specs.Kept.{SymbolRoom, GrowthBegun}
 use Rattle.covering.proofs.Covering.{one-same}
 use Rattle.firing.proofs.Chaining.{none-linked}
 
@@ -92,7 +92,7 @@ module _ {image : List ℕ} {table : List Blocker} {below X bound s count : ℕ}
   first-end-place : (place : ℕ) → s < bound → place ≡ s → place + 1 < length ends
   first-end-place place l e = omega (arith, so-far .all, so-far .room .ends-fit)
 
-  pub first-ends : bound ≤ s → true ≡ true → Begun image table below X sets near ends
+  pub first-ends : bound ≤ s → true ≡ true → GrowthBegun image table below X sets near ends
   first-ends l t =
       record {
         room = so-far .room;
@@ -210,5 +210,5 @@ module _ {image : List ℕ} {head : Head} (read : ReadAs image head) where
   fits-told X b e n = holds (ap (λ (states : ℕ). within states X) (sym (head-states read)) ∙ sym e ∙ not-false b n)
 
 pub begun-told : {image : List ℕ} {table : List Blocker} {below X : ℕ} {sets near ends : List ℕ} (r : Bool)
-    → (r ≡ true → Begun image table below X sets near ends) → not r ≡ false → Begun image table below X sets near ends
+    → (r ≡ true → GrowthBegun image table below X sets near ends) → not r ≡ false → GrowthBegun image table below X sets near ends
 begun-told r f n = f (not-false r n)

@@ -20,7 +20,7 @@ use Rattle.machine.specs.Machine.{Blocker, passes, withState, byStates}
 use Rattle.machine.specs.Machine as Machine
 use Rattle.machine.specs.Runs.{systemOf}
 use Rattle.firing.specs.Sets.{SetsOf, Below, Trying}
-use Rattle.growing.specs.Kept.{AllSettled, Begun, Growing, Settling, Copied}
+use Rattle.growing.specs.Kept.{AllSettled, GrowthBegun, Growing, Settling, Copied}
 use Rattle.passing.specs.Grown.{Grown}
 use Rattle.passing.proofs.States.{grown-more, StatesTried, states-start, states-go, states-end}
 use Rattle.firing.proofs.Fires.{in-more, more-holds}
@@ -112,7 +112,7 @@ pub record StatesTrying (image : List ℕ) (table : List Blocker) (below X state
   pub next-long : length next ≡ length next₀
 
 pub tries-start : {image : List ℕ} {head : Head} {table : List Blocker} {below X : ℕ} {sets next near ends : List ℕ} → ReadAs image head
-    → Begun image table below X sets near ends → T (within (statesOf image) X) → symbolsOf image ≤ length next
+    → GrowthBegun image table below X sets near ends → T (within (statesOf image) X) → symbolsOf image ≤ length next
     → StatesTrying image table below X (head .states) 0 X sets next sets next near ends
 tries-start {X = X} read begun fits room =
     record {

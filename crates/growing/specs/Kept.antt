@@ -22,7 +22,7 @@ pub record SymbolRoom (image sets near ends : List ℕ) : Type 0 where
   pub ends-fit : suc (symbolsOf image) ≤ length ends
 
 -- the sets of X, all of them settled, and the lists of what covers them
-pub record Begun (image : List ℕ) (table : List Blocker) (below X : ℕ) (sets near ends : List ℕ) : Type 0 where
+pub record GrowthBegun (image : List ℕ) (table : List Blocker) (below X : ℕ) (sets near ends : List ℕ) : Type 0 where
   pub room : SymbolRoom image sets near ends
   pub are : SetsOf image X sets
   pub lists : Near image table below X near ends

@@ -13,7 +13,7 @@ use passing::by_each;
 ghost use mathlib.Core.Path.{_≡_};
 ghost use Rattle.automata.specs.Answers.{ReadAs};
 ghost use Rattle.machine.specs.Machine.{byStates};
-ghost use Rattle.machine.specs.Lent.{blockersIn};
+ghost use Rattle.machine.specs.Lending.{blockersBefore};
 ghost use Rattle.machine.specs.Runs.{systemOf};
 
 fn wide(rows: u16) -> usize {
@@ -42,7 +42,7 @@ pub fn by_states(
     x: u64,
 ) -> u64
     requires { ⌜ ReadAs (now image) head ⌝ }
-    ensures { λ r. ⌜ r ≡ byStates (systemOf (now (image .entry))) (blockersIn (now (masks .entry)) (now (levels .entry))) (below .0) x ⌝ }
+    ensures { λ r. ⌜ r ≡ byStates (systemOf (now (image .entry))) (blockersBefore masks levels) (below .0) x ⌝ }
 {
     if !masks::within(head.states, x) {
         return x;

@@ -23,13 +23,13 @@ ghost use Rattle.masks.specs.Sets.{within};
 ghost use Rattle.automata.specs.Image.{statesOf, symbolsOf, rowCountOf};
 ghost use Rattle.automata.specs.Answers.{ReadAs};
 ghost use Rattle.machine.specs.Machine.{passes, withState, byStates};
-ghost use Rattle.machine.specs.Lent.{blockersIn};
+ghost use Rattle.machine.specs.Lending.{blockersNow, blockersBefore};
 ghost use Rattle.machine.specs.Runs.{systemOf};
 ghost use Rattle.passing.specs.Grown.{allSettled};
 ghost use Rattle.firing.specs.Linked.{Linked};
 ghost use Rattle.firing.specs.Sets.{SetsOf, Trying};
 ghost use Rattle.growing.specs.Near.{firstPlace};
-ghost use Rattle.growing.specs.Kept.{SymbolRoom, Begun, Growing, Settling, Copied};
+ghost use Rattle.growing.specs.Kept.{SymbolRoom, GrowthBegun, Growing, Settling, Copied};
 
 // The first `count` places of one table become those of another.
 fn copy(from: &[u64], to: &mut [u64], count: usize)
@@ -66,7 +66,7 @@ fn first_sets(
     ends: &mut [usize],
 ) -> bool
     requires { ⌜ ReadAs (now image) head × SymbolRoom (now image) (now sets) (now near) (now ends) × (getD (now ends) 0 0 ≡ 0) ⌝ }
-    ensures { λ r. ⌜ (r ≡ true → Begun (now (image .entry)) (blockersIn (now (masks .entry)) (now (levels .entry))) (below .0) x
+    ensures { λ r. ⌜ (r ≡ true → GrowthBegun (now (image .entry)) (blockersBefore masks levels) (below .0) x
         (now (sets .exit)) (now (near .exit)) (now (ends .exit))) ⌝ }
 {
     let mut count = first_place(below);
@@ -102,8 +102,8 @@ fn all_settled(
     ends: &[usize],
 ) -> bool
     requires { ⌜ ReadAs (now image) head
-        × Settling (now image) (blockersIn (now masks) (now levels)) (below .0) x y more (now before) (now sets) (now near) (now ends) ⌝ }
-    ensures { λ r. ⌜ r ≡ allSettled (now (image .entry)) (blockersIn (now (masks .entry)) (now (levels .entry))) (below .0) more ⌝ }
+        × Settling (now image) (blockersNow masks levels) (below .0) x y more (now before) (now sets) (now near) (now ends) ⌝ }
+    ensures { λ r. ⌜ r ≡ allSettled (now (image .entry)) (blockersBefore masks levels) (below .0) more ⌝ }
 {
     let mut symbol = Symbol(0);
     while symbol.0 < head.symbols {
@@ -173,9 +173,9 @@ fn keeps(
     next: &mut [u64],
 ) -> bool
     requires { ⌜ ReadAs (now image) head × Linked (now image) x (rowCountOf (now image)) (now lasts) (now links) (now symbols)
-        × Growing (now image) (blockersIn (now masks) (now levels)) (below .0) x (q .0) y (now sets) (now next) (now near) (now ends)
+        × Growing (now image) (blockersNow masks levels) (below .0) x (q .0) y (now sets) (now next) (now near) (now ends)
         × Trying (now image) x (q .0) y more ⌝ }
-    ensures { λ r. ⌜ (r ≡ passes (systemOf (now (image .entry))) (blockersIn (now (masks .entry)) (now (levels .entry))) (below .0) x more)
+    ensures { λ r. ⌜ (r ≡ passes (systemOf (now (image .entry))) (blockersBefore masks levels) (below .0) x more)
         × (r ≡ true → SetsOf (now (image .entry)) more (now (next .exit))) ⌝ }
 {
     if masks::subset(head.initial, more) {
@@ -229,10 +229,10 @@ fn try_state(
     next: &mut [u64],
 ) -> u64
     requires { ⌜ ReadAs (now image) head × Linked (now image) x (rowCountOf (now image)) (now lasts) (now links) (now symbols)
-        × Growing (now image) (blockersIn (now masks) (now levels)) (below .0) x (q .0) y (now sets) (now next) (now near) (now ends)
+        × Growing (now image) (blockersNow masks levels) (below .0) x (q .0) y (now sets) (now next) (now near) (now ends)
         × (q .0 < statesOf (now image)) ⌝ }
-    ensures { λ r. ⌜ (r ≡ withState (systemOf (now (image .entry))) (blockersIn (now (masks .entry)) (now (levels .entry))) (below .0) x (q .0) y)
-        × Growing (now (image .entry)) (blockersIn (now (masks .entry)) (now (levels .entry))) (below .0) x (q .0 + 1) r
+    ensures { λ r. ⌜ (r ≡ withState (systemOf (now (image .entry))) (blockersBefore masks levels) (below .0) x (q .0) y)
+        × Growing (now (image .entry)) (blockersBefore masks levels) (below .0) x (q .0 + 1) r
         (now (sets .exit)) (now (next .exit)) (now (near .entry)) (now (ends .entry)) ⌝ }
 {
     if masks::member(q, x) {
@@ -280,9 +280,9 @@ fn try_states(
     next: &mut [u64],
 ) -> u64
     requires { ⌜ ReadAs (now image) head × Linked (now image) x (rowCountOf (now image)) (now lasts) (now links) (now symbols)
-        × Begun (now image) (blockersIn (now masks) (now levels)) (below .0) x (now sets) (now near) (now ends)
+        × GrowthBegun (now image) (blockersNow masks levels) (below .0) x (now sets) (now near) (now ends)
         × T (within (statesOf (now image)) x) × (symbolsOf (now image) ≤ length (now next)) ⌝ }
-    ensures { λ r. ⌜ r ≡ byStates (systemOf (now (image .entry))) (blockersIn (now (masks .entry)) (now (levels .entry))) (below .0) x ⌝ }
+    ensures { λ r. ⌜ r ≡ byStates (systemOf (now (image .entry))) (blockersBefore masks levels) (below .0) x ⌝ }
 {
     let mut y = x;
     let mut q = State(0);
@@ -326,9 +326,9 @@ fn grow_in(
     symbols: &mut [u8],
 ) -> u64
     requires { ⌜ ReadAs (now image) head × Linked (now image) x 0 (now lasts) (now links) (now symbols)
-        × Begun (now image) (blockersIn (now masks) (now levels)) (below .0) x (now sets) (now near) (now ends)
+        × GrowthBegun (now image) (blockersNow masks levels) (below .0) x (now sets) (now near) (now ends)
         × T (within (statesOf (now image)) x) × (symbolsOf (now image) ≤ length (now next)) ⌝ }
-    ensures { λ r. ⌜ r ≡ byStates (systemOf (now (image .entry))) (blockersIn (now (masks .entry)) (now (levels .entry))) (below .0) x ⌝ }
+    ensures { λ r. ⌜ r ≡ byStates (systemOf (now (image .entry))) (blockersBefore masks levels) (below .0) x ⌝ }
 {
     link_rows(image, head, x, lasts, links, symbols);
     try_states(
@@ -362,9 +362,9 @@ fn grow_short(
     next: &mut [u64],
 ) -> u64
     requires { ⌜ ReadAs (now image) head × (rowCountOf (now image) < 512)
-        × Begun (now image) (blockersIn (now masks) (now levels)) (below .0) x (now sets) (now near) (now ends)
+        × GrowthBegun (now image) (blockersNow masks levels) (below .0) x (now sets) (now near) (now ends)
         × T (within (statesOf (now image)) x) × (symbolsOf (now image) ≤ length (now next)) ⌝ }
-    ensures { λ r. ⌜ r ≡ byStates (systemOf (now (image .entry))) (blockersIn (now (masks .entry)) (now (levels .entry))) (below .0) x ⌝ }
+    ensures { λ r. ⌜ r ≡ byStates (systemOf (now (image .entry))) (blockersBefore masks levels) (below .0) x ⌝ }
 {
     let mut lasts = [0u16; 65];
     let mut links = [0u16; SHORT_TABLE];
@@ -400,9 +400,9 @@ fn grow_long(
     next: &mut [u64],
 ) -> u64
     requires { ⌜ ReadAs (now image) head
-        × Begun (now image) (blockersIn (now masks) (now levels)) (below .0) x (now sets) (now near) (now ends)
+        × GrowthBegun (now image) (blockersNow masks levels) (below .0) x (now sets) (now near) (now ends)
         × T (within (statesOf (now image)) x) × (symbolsOf (now image) ≤ length (now next)) ⌝ }
-    ensures { λ r. ⌜ r ≡ byStates (systemOf (now (image .entry))) (blockersIn (now (masks .entry)) (now (levels .entry))) (below .0) x ⌝ }
+    ensures { λ r. ⌜ r ≡ byStates (systemOf (now (image .entry))) (blockersBefore masks levels) (below .0) x ⌝ }
 {
     let mut lasts = [0u16; 65];
     let mut links = [0u16; 4096];
@@ -438,9 +438,9 @@ fn grow_begun(
     next: &mut [u64],
 ) -> u64
     requires { ⌜ ReadAs (now image) head
-        × Begun (now image) (blockersIn (now masks) (now levels)) (below .0) x (now sets) (now near) (now ends)
+        × GrowthBegun (now image) (blockersNow masks levels) (below .0) x (now sets) (now near) (now ends)
         × T (within (statesOf (now image)) x) × (symbolsOf (now image) ≤ length (now next)) ⌝ }
-    ensures { λ r. ⌜ r ≡ byStates (systemOf (now (image .entry))) (blockersIn (now (masks .entry)) (now (levels .entry))) (below .0) x ⌝ }
+    ensures { λ r. ⌜ r ≡ byStates (systemOf (now (image .entry))) (blockersBefore masks levels) (below .0) x ⌝ }
 {
     if head.rows < SHORT_ROWS {
         return grow_short(image, head, masks, levels, below, x, near, ends, sets, next);
@@ -458,7 +458,7 @@ pub(crate) fn by_tables(
     x: u64,
 ) -> u64
     requires { ⌜ ReadAs (now image) head × T (within (statesOf (now image)) x) ⌝ }
-    ensures { λ r. ⌜ r ≡ byStates (systemOf (now (image .entry))) (blockersIn (now (masks .entry)) (now (levels .entry))) (below .0) x ⌝ }
+    ensures { λ r. ⌜ r ≡ byStates (systemOf (now (image .entry))) (blockersBefore masks levels) (below .0) x ⌝ }
 {
     let mut sets = [0u64; 64];
     let mut near = [0u64; LISTED_COVERS];

@@ -27,7 +27,7 @@ use Rattle.machine.specs.Runs.{systemOf}
 use Rattle.machine.specs.Hitting.{cover, casesOutside, casesFrom, forbidden, withSet, withCases, toMeet}
 use Rattle.machine.proofs.Counted.{with-cases-joined, with-cases-longer}
 use Rattle.hitting.specs.Slots.{slotOf}
-use Rattle.hitting.specs.Sets.{Gathered, Filled, HasRoom, withRows, withSymbol}
+use Rattle.hitting.specs.Sets.{Gathered, Filled, HasRoom, withRowCases, withSymbol}
 use Rattle.hitting.proofs.Linking.{one-slotted, Looking, told-below, looking-found, looking-goes}
 
 -- the search for a set along its chain, in the table
@@ -104,18 +104,18 @@ module _ (table slots links : List ℕ) (count one : ℕ) (room : HasRoom count 
 
 -- one row: its state is in b, or what is left of its case enters
 module _ (image : List ℕ) (at : ℕ) (row : Read.Row) (is : rowOf row ≡ rowAt image at) (b X : ℕ) (inside : Bool) (test : inside ≡ member (row .state .0) b)
-    (table slots links : List ℕ) (count : ℕ) (room : HasRoom count table slots links (withRows X b (take count table) (rowAt image at ∷ []))) where
-  of-row : withRows X b (take count table) (rowOf row ∷ []) ≡ withRows X b (take count table) (rowAt image at ∷ [])
-  of-row = ap (λ (r : Row). withRows X b (take count table) (r ∷ [])) is
+    (table slots links : List ℕ) (count : ℕ) (room : HasRoom count table slots links (withRowCases X b (take count table) (rowAt image at ∷ []))) where
+  of-row : withRowCases X b (take count table) (rowOf row ∷ []) ≡ withRowCases X b (take count table) (rowAt image at ∷ [])
+  of-row = ap (λ (r : Row). withRowCases X b (take count table) (r ∷ [])) is
 
-  pub row-inside : inside ≡ true → Filled (withRows X b (take count table) (rowAt image at ∷ [])) count table slots links
+  pub row-inside : inside ≡ true → Filled (withRowCases X b (take count table) (rowAt image at ∷ [])) count table slots links
   unfolding casesOutside keep choose neg column withCases
   row-inside t =
-      let same : withRows X b (take count table) (rowAt image at ∷ []) ≡ take count table = sym of-row ∙ rw (← test, t) in
+      let same : withRowCases X b (take count table) (rowAt image at ∷ []) ≡ take count table = sym of-row ∙ rw (← test, t) in
       subst (λ (sets : List ℕ). Filled sets count table slots links) (sym same) (room .used)
 
   module _ (left : ℕ) (is-left : left ≡ without (row .case) X) (f : inside ≡ false) where
-    row-new : withSet (take count table) left ≡ withRows X b (take count table) (rowAt image at ∷ [])
+    row-new : withSet (take count table) left ≡ withRowCases X b (take count table) (rowAt image at ∷ [])
     unfolding casesOutside keep choose neg column withCases
     row-new = sym (rw (← test, f, is-left)) ∙ of-row
 
@@ -123,7 +123,7 @@ module _ (image : List ℕ) (at : ℕ) (row : Read.Row) (is : rowOf row ≡ rowA
     row-room = rw row-new room
 
     pub row-outside : (r : ℕ) (after slots-after links-after : List ℕ) → Filled (withSet (take count table) left) r after slots-after links-after
-        → Filled (withRows X b (take count table) (rowAt image at ∷ [])) r after slots-after links-after
+        → Filled (withRowCases X b (take count table) (rowAt image at ∷ [])) r after slots-after links-after
     row-outside r after slots-after links-after filled = rw (← row-new) filled
 
 -- what is filled with sets holds them in its first places
@@ -141,7 +141,7 @@ outside-first b row rows = at (neg (member (row .state) b))
     at false = refl
 
 first-then : (X b : ℕ) (sets : List ℕ) (row : Row) (rows : List Row)
-    → withRows X b sets (row ∷ rows) ≡ withRows X b (withRows X b sets (row ∷ [])) rows
+    → withRowCases X b sets (row ∷ rows) ≡ withRowCases X b (withRowCases X b sets (row ∷ [])) rows
 first-then X b sets row rows = ap (withCases X sets) (outside-first b row rows) ∙ with-cases-joined X sets (casesOutside b (row ∷ [])) (casesOutside b rows)
 
 -- the rows from start to end, before the row at `at`: those ahead give what all give
@@ -151,11 +151,11 @@ pub record RowsGathered (image : List ℕ) (start end b X : ℕ) (before slotted
   pub same : length table ≡ length before
   pub same-slots : length slots ≡ length slotted
   pub same-links : length links ≡ length linked
-  pub room : length (withRows X b (take count before) (rowsBetween image start end)) ≤ length before
-  pub left : withRows X b (take total table) (rowsBetween image at end) ≡ withRows X b (take count before) (rowsBetween image start end)
+  pub room : length (withRowCases X b (take count before) (rowsBetween image start end)) ≤ length before
+  pub left : withRowCases X b (take total table) (rowsBetween image at end) ≡ withRowCases X b (take count before) (rowsBetween image start end)
 
 pub rows-start : {image : List ℕ} {start end b X : ℕ} {table slots links : List ℕ} {count : ℕ} → Span image start end
-    → HasRoom count table slots links (withRows X b (take count table) (rowsBetween image start end))
+    → HasRoom count table slots links (withRowCases X b (take count table) (rowsBetween image start end))
     → RowsGathered image start end b X table slots links count count start table slots links
 rows-start span room = record { at-row = first-row span; used = room .used; same = refl; same-slots = refl; same-links = refl; room = room .room; left = refl }
 
@@ -165,28 +165,28 @@ module _ {image : List ℕ} {start end b X : ℕ} {before slotted linked : List 
   row-stands l = one-stands (so-far .at-row) l
 
   module _ (l : at < end) where
-    split : withRows X b (withRows X b (take total table) (rowAt image at ∷ [])) (rowsBetween image (at + 9) end)
-        ≡ withRows X b (take count before) (rowsBetween image start end)
+    split : withRowCases X b (withRowCases X b (take total table) (rowAt image at ∷ [])) (rowsBetween image (at + 9) end)
+        ≡ withRowCases X b (take count before) (rowsBetween image start end)
     split =
         sym (first-then X b (take total table) (rowAt image at) (rowsBetween image (at + 9) end))
-        ∙ ap (withRows X b (take total table)) (sym (rows-ahead (so-far .at-row) l))
+        ∙ ap (withRowCases X b (take total table)) (sym (rows-ahead (so-far .at-row) l))
         ∙ so-far .left
 
-    pub next-room : HasRoom total table slots links (withRows X b (take total table) (rowAt image at ∷ []))
+    pub next-room : HasRoom total table slots links (withRowCases X b (take total table) (rowAt image at ∷ []))
     next-room =
         record {
           used = so-far .used;
           room =
               omega (
                 arith,
-                with-cases-longer X (withRows X b (take total table) (rowAt image at ∷ [])) (casesOutside b (rowsBetween image (at + 9) end)),
+                with-cases-longer X (withRowCases X b (take total table) (rowAt image at ∷ [])) (casesOutside b (rowsBetween image (at + 9) end)),
                 ap length split,
                 so-far .room,
                 so-far .same,
               );
         }
 
-    pub rows-go : (r : ℕ) (after slots-after links-after : List ℕ) → Filled (withRows X b (take total table) (rowAt image at ∷ [])) r after slots-after links-after
+    pub rows-go : (r : ℕ) (after slots-after links-after : List ℕ) → Filled (withRowCases X b (take total table) (rowAt image at ∷ [])) r after slots-after links-after
         → length after ≡ length table → length slots-after ≡ length slots → length links-after ≡ length links
         → RowsGathered image start end b X before slotted linked count r (at + 9) after slots-after links-after
     rows-go r after slots-after links-after filled same same-slots same-links =
@@ -197,27 +197,27 @@ module _ {image : List ℕ} {start end b X : ℕ} {before slotted linked : List 
           same-slots = same-slots ∙ so-far .same-slots;
           same-links = same-links ∙ so-far .same-links;
           room = so-far .room;
-          left = ap (λ (sets : List ℕ). withRows X b sets (rowsBetween image (at + 9) end)) (filled .gathered .stands) ∙ split;
+          left = ap (λ (sets : List ℕ). withRowCases X b sets (rowsBetween image (at + 9) end)) (filled .gathered .stands) ∙ split;
         }
 
-  pub rows-end : end ≤ at → Filled (withRows X b (take count before) (rowsBetween image start end)) total table slots links
+  pub rows-end : end ≤ at → Filled (withRowCases X b (take count before) (rowsBetween image start end)) total table slots links
   unfolding casesOutside keep column withCases
   rows-end l =
-      let all : take total table ≡ withRows X b (take count before) (rowsBetween image start end) =
-      ap (withRows X b (take total table)) (sym (none-ahead (so-far .at-row) l)) ∙ so-far .left in
+      let all : take total table ≡ withRowCases X b (take count before) (rowsBetween image start end) =
+      ap (withRowCases X b (take total table)) (sym (none-ahead (so-far .at-row) l)) ∙ so-far .left in
       subst (λ (sets : List ℕ). Filled sets total table slots links) all (so-far .used)
 
 -- the rows of a symbol, with its b
 module _ {image : List ℕ} {head : Head} (read : ReadAs image head) (table : List Blocker) (below X s P b : ℕ) (rows : List Row)
     (are : rows ≡ rowsOf image s) (taken : P ≡ backward (rowsOf image s) X) (covers : b ≡ cover (head .states) (head .initial) table below X P) (sets : List ℕ) where
-  symbol-is : withRows X b sets rows ≡ withSymbol (systemOf image) (rowsOf image) table below X sets s
+  symbol-is : withRowCases X b sets rows ≡ withSymbol (systemOf image) (rowsOf image) table below X sets s
   symbol-is = rw (are, covers, taken, head-states read, head-initial read)
 
   pub symbol-room : (count : ℕ) (places slots links : List ℕ) → HasRoom count places slots links (withSymbol (systemOf image) (rowsOf image) table below X sets s)
-      → HasRoom count places slots links (withRows X b sets rows)
+      → HasRoom count places slots links (withRowCases X b sets rows)
   symbol-room count places slots links room = rw symbol-is room
 
-  pub symbol-made : (r : ℕ) (after slots links : List ℕ) → Filled (withRows X b sets rows) r after slots links
+  pub symbol-made : (r : ℕ) (after slots links : List ℕ) → Filled (withRowCases X b sets rows) r after slots links
       → Filled (withSymbol (systemOf image) (rowsOf image) table below X sets s) r after slots links
   symbol-made r after slots links filled = rw (← symbol-is) filled
 

@@ -30,12 +30,12 @@ pub record HasRoom (count : ℕ) (table slots links sets : List ℕ) : Type 0 wh
   pub room : length sets ≤ length table
 
 -- the sets, with what is left of the cases of these rows whose state is outside b
-abbrev pub withRows : ℕ → ℕ → List ℕ → List Row → List ℕ
-withRows X b sets rows = withCases X sets (casesOutside b rows)
+abbrev pub withRowCases : ℕ → ℕ → List ℕ → List Row → List ℕ
+withRowCases X b sets rows = withCases X sets (casesOutside b rows)
 
 -- the same of the symbol's rows, with its own b
 abbrev pub withSymbol : System → RowSource → List Blocker → ℕ → ℕ → List ℕ → ℕ → List ℕ
-withSymbol S rows table below X sets s = withRows X (cover (S .states) (S .initial) table below X (S .backward s X)) sets (rows s)
+withSymbol S rows table below X sets s = withRowCases X (cover (S .states) (S .initial) table below X (S .backward s X)) sets (rows s)
 
 -- Counts as planes: bit q of plane j is bit j of the count of state q. One more for each state of a set is an addition with a carry from plane to plane.
 unfoldable pub withCarry : ℕ → List ℕ → List ℕ

@@ -19,10 +19,10 @@ ghost use Rattle.lists.specs.Lists.{any};
 ghost use Rattle.automata.specs.Image.{symbolsOf, rowAt, rowsOf};
 ghost use Rattle.automata.specs.Walk.{RowsStand, Span, rowsBetween};
 ghost use Rattle.automata.specs.Answers.{ReadAs};
-ghost use Rattle.machine.specs.Lent.{blockersIn};
+ghost use Rattle.machine.specs.Lending.{blockersNow, blockersBefore};
 ghost use Rattle.machine.specs.Runs.{systemOf};
 ghost use Rattle.machine.specs.Hitting.{cover as coverSet, withSet, toMeet};
-ghost use Rattle.hitting.specs.Sets.{Gathered, Filled, HasRoom, withRows, withSymbol};
+ghost use Rattle.hitting.specs.Sets.{Gathered, Filled, HasRoom, withRowCases, withSymbol};
 
 // Whether the set is one of the first `count`: it is looked for along the chain of its slot.
 fn is_there(sets: &[u64], slots: &[u16], links: &[u16], count: usize, set: u64) -> bool
@@ -66,8 +66,9 @@ fn with_row(
     links: &mut [u16],
     count: usize,
 ) -> usize
-    requires { ⌜ RowsStand (now image) 1 at × HasRoom count (now sets) (now slots) (now links) (withRows x b (take count (now sets)) (rowAt (now image) at ∷ [])) ⌝ }
-    ensures { λ r. ⌜ Filled (withRows x b (take count (now (sets .entry))) (rowAt (now (image .entry)) at ∷ [])) r (now (sets .exit)) (now (slots .exit)) (now (links .exit)) ⌝ }
+    requires { ⌜ RowsStand (now image) 1 at × HasRoom count (now sets) (now slots) (now links) (withRowCases x b (take count (now sets)) (rowAt (now image) at ∷ [])) ⌝ }
+    ensures { λ r. ⌜ Filled (withRowCases x b (take count (now (sets .entry))) (rowAt (now (image .entry)) at ∷ []))
+        r (now (sets .exit)) (now (slots .exit)) (now (links .exit)) ⌝ }
 {
     let row = row_at(image, at);
     if masks::member(row.state, b) {
@@ -88,8 +89,10 @@ fn with_rows(
     links: &mut [u16],
     count: usize,
 ) -> usize
-    requires { ⌜ Span (now image) start end × HasRoom count (now sets) (now slots) (now links) (withRows x b (take count (now sets)) (rowsBetween (now image) start end)) ⌝ }
-    ensures { λ r. ⌜ Filled (withRows x b (take count (now (sets .entry))) (rowsBetween (now (image .entry)) start end)) r (now (sets .exit)) (now (slots .exit)) (now (links .exit)) ⌝ }
+    requires { ⌜ Span (now image) start end
+        × HasRoom count (now sets) (now slots) (now links) (withRowCases x b (take count (now sets)) (rowsBetween (now image) start end)) ⌝ }
+    ensures { λ r. ⌜ Filled (withRowCases x b (take count (now (sets .entry))) (rowsBetween (now (image .entry)) start end))
+        r (now (sets .exit)) (now (slots .exit)) (now (links .exit)) ⌝ }
 {
     let mut total = count;
     let mut at = start;
@@ -103,7 +106,7 @@ fn with_rows(
 // The set b of a symbol whose backward set of x is p.
 fn cover(head: Head, masks: &[u64], levels: &[u32], below: Level, x: u64, p: u64) -> u64
     requires { ⌜ (1 ≤ head .states) × (head .states ≤ 64) ⌝ }
-    ensures { λ r. ⌜ r ≡ coverSet (head .states) (head .initial) (blockersIn (now (masks .entry)) (now (levels .entry))) (below .0) x p ⌝ }
+    ensures { λ r. ⌜ r ≡ coverSet (head .states) (head .initial) (blockersBefore masks levels) (below .0) x p ⌝ }
 {
     if masks::subset(p, x) {
         return x;
@@ -130,9 +133,10 @@ fn with_symbol(
     count: usize,
 ) -> usize
     requires { ⌜ ReadAs (now image) head × (symbol .0 < symbolsOf (now image))
-        × HasRoom count (now sets) (now slots) (now links) (withSymbol (systemOf (now image)) (rowsOf (now image)) (blockersIn (now masks) (now levels)) (below .0) x (take count (now sets)) (symbol .0)) ⌝ }
+        × HasRoom count (now sets) (now slots) (now links)
+        (withSymbol (systemOf (now image)) (rowsOf (now image)) (blockersNow masks levels) (below .0) x (take count (now sets)) (symbol .0)) ⌝ }
     ensures { λ r. ⌜ Filled (withSymbol (systemOf (now (image .entry))) (rowsOf (now (image .entry)))
-        (blockersIn (now (masks .entry)) (now (levels .entry))) (below .0) x (take count (now (sets .entry))) (symbol .0)) r (now (sets .exit)) (now (slots .exit)) (now (links .exit)) ⌝ }
+        (blockersBefore masks levels) (below .0) x (take count (now (sets .entry))) (symbol .0)) r (now (sets .exit)) (now (slots .exit)) (now (links .exit)) ⌝ }
 {
     let p = backward(image, symbol, x).set;
     let b = cover(head, masks, levels, below, x, p);
@@ -153,9 +157,9 @@ pub(crate) fn gather(
     links: &mut [u16],
 ) -> usize
     requires { ⌜ ReadAs (now image) head
-        × HasRoom 0 (now sets) (now slots) (now links) (toMeet (systemOf (now image)) (rowsOf (now image)) (blockersIn (now masks) (now levels)) (below .0) x) ⌝ }
+        × HasRoom 0 (now sets) (now slots) (now links) (toMeet (systemOf (now image)) (rowsOf (now image)) (blockersNow masks levels) (below .0) x) ⌝ }
     ensures { λ r. ⌜ Gathered (toMeet (systemOf (now (image .entry))) (rowsOf (now (image .entry)))
-        (blockersIn (now (masks .entry)) (now (levels .entry))) (below .0) x) r (now (sets .exit)) ⌝ }
+        (blockersBefore masks levels) (below .0) x) r (now (sets .exit)) ⌝ }
 {
     let mut count = with_set(sets, slots, links, 0, masks::without(head.initial, x));
     let mut symbol = Symbol(0);

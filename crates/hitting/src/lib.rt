@@ -13,7 +13,7 @@ ghost use Prim.Native.Nat.{_≤_, _<_};
 ghost use lib.ListN.{length, replicate};
 ghost use Rattle.automata.specs.Image.{rowCountOf, rowsOf};
 ghost use Rattle.automata.specs.Answers.{ReadAs};
-ghost use Rattle.machine.specs.Lent.{blockersIn};
+ghost use Rattle.machine.specs.Lending.{blockersBefore};
 ghost use Rattle.machine.specs.Runs.{systemOf};
 ghost use Rattle.machine.specs.Hitting.{byHittingSet};
 
@@ -32,7 +32,7 @@ fn grow_in(
     requires { ⌜ ReadAs (now image) head × (rowCountOf (now image) < length (now sets)) × (length (now sets) < 65536)
         × (length (now sets) ≤ length (now links)) × (1 ≤ length (now slots)) × (now slots ≡ replicate (length (now slots)) 0) ⌝ }
     ensures { λ r. ⌜ r ≡ byHittingSet (systemOf (now (image .entry))) (rowsOf (now (image .entry)))
-        (blockersIn (now (masks .entry)) (now (levels .entry))) (below .0) x ⌝ }
+        (blockersBefore masks levels) (below .0) x ⌝ }
 {
     let count = gathering::gather(image, head, masks, levels, below, x, sets, slots, links);
     let picked = picking::pick(head.states, sets, count);
@@ -43,7 +43,7 @@ fn grow_in(
 fn grow_short(image: &[u8], head: Head, masks: &[u64], levels: &[u32], below: Level, x: u64) -> u64
     requires { ⌜ ReadAs (now image) head × (rowCountOf (now image) < 512) ⌝ }
     ensures { λ r. ⌜ r ≡ byHittingSet (systemOf (now (image .entry))) (rowsOf (now (image .entry)))
-        (blockersIn (now (masks .entry)) (now (levels .entry))) (below .0) x ⌝ }
+        (blockersBefore masks levels) (below .0) x ⌝ }
 {
     let mut sets = [0u64; SHORT_TABLE];
     let mut slots = [0u16; SHORT_TABLE];
@@ -65,7 +65,7 @@ fn grow_short(image: &[u8], head: Head, masks: &[u64], levels: &[u32], below: Le
 fn grow_long(image: &[u8], head: Head, masks: &[u64], levels: &[u32], below: Level, x: u64) -> u64
     requires { ⌜ ReadAs (now image) head ⌝ }
     ensures { λ r. ⌜ r ≡ byHittingSet (systemOf (now (image .entry))) (rowsOf (now (image .entry)))
-        (blockersIn (now (masks .entry)) (now (levels .entry))) (below .0) x ⌝ }
+        (blockersBefore masks levels) (below .0) x ⌝ }
 {
     let mut sets = [0u64; 4097];
     let mut slots = [0u16; 4096];
@@ -87,7 +87,7 @@ fn grow_long(image: &[u8], head: Head, masks: &[u64], levels: &[u32], below: Lev
 pub fn grow(image: &[u8], head: Head, masks: &[u64], levels: &[u32], below: Level, x: u64) -> u64
     requires { ⌜ ReadAs (now image) head ⌝ }
     ensures { λ r. ⌜ r ≡ byHittingSet (systemOf (now (image .entry))) (rowsOf (now (image .entry)))
-        (blockersIn (now (masks .entry)) (now (levels .entry))) (below .0) x ⌝ }
+        (blockersBefore masks levels) (below .0) x ⌝ }
 {
     if head.rows < SHORT_ROWS {
         return grow_short(image, head, masks, levels, below, x);

@@ -8,7 +8,8 @@ ghost use Prim.Native.Nat.{_-_, _≤_, _<_};
 ghost use lib.ListN.{length};
 ghost use Rattle.lists.specs.Lists.{any};
 ghost use Rattle.machine.specs.Machine.{covers as coversCase};
-ghost use Rattle.machine.specs.Lent.{unstampedRoom, blockersFrom};
+ghost use Rattle.machine.specs.Lent.{blockersFrom};
+ghost use Rattle.machine.specs.Lending.{unstampedBefore};
 ghost use Rattle.indexing.specs.Index.{Index};
 
 // How many places are listed, and before which place they are all those of the level: the number of blockers held, unless the room was too small.
@@ -67,7 +68,7 @@ fn is_covered_from(
     case: u64,
 ) -> bool
     requires { ⌜ (to ≤ length (now masks)) × (to ≤ length (now levels)) ⌝ }
-    ensures { λ r. ⌜ r ≡ any (coversCase (level .0) case) (blockersFrom (unstampedRoom (now (masks .entry)) (now (levels .entry))) (to - from) from) ⌝ }
+    ensures { λ r. ⌜ r ≡ any (coversCase (level .0) case) (blockersFrom (unstampedBefore masks levels) (to - from) from) ⌝ }
 {
     let mut i = from;
     while i < to {
@@ -91,7 +92,7 @@ pub fn is_covered(
     case: u64,
 ) -> bool
     requires { ⌜ Index (level .0) held (listed .upto) (listed .end) (now masks) (now levels) (now low) (now places) ⌝ }
-    ensures { λ r. ⌜ r ≡ any (coversCase (level .0) case) (blockersFrom (unstampedRoom (now (masks .entry)) (now (levels .entry))) held 0) ⌝ }
+    ensures { λ r. ⌜ r ≡ any (coversCase (level .0) case) (blockersFrom (unstampedBefore masks levels) held 0) ⌝ }
 {
     let half = searching::low_half(case);
     let end = listed.end;

@@ -113,7 +113,8 @@ fn leave(masks: &[u64], levels: &mut [u32], lacks: &[u32], held: usize, mask: u6
 
 // The blocker at `place` rises by one level, and others of its new level or lower that are subsets of it sink to level 0.
 pub fn rise_in_place(masks: &[u64], levels: &mut [u32], lacks: &[u32], held: usize, place: usize)
-    requires { ⌜ Noted held (now masks) (now lacks) × (held ≤ length (now masks)) × (held ≤ length (now levels)) × (place < held) × (getD (now levels) place 0 < 4294967295) ⌝ }
+    requires { ⌜ Noted held (now masks) (now lacks) × (held ≤ length (now masks)) × (held ≤ length (now levels)) × (place < held)
+        × (getD (now levels) place 0 < 4294967295) ⌝ }
     ensures { λ _. ⌜ RisenIn place held (now (masks .entry)) (now (levels .entry)) (now (levels .exit)) ⌝ }
 {
     let mask = masks[place];

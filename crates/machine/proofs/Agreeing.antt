@@ -8,7 +8,7 @@ use lib.Dec.{T}
 use lib.ListN.{length}
 use Rattle.lists.proofs.Lists.{in-none}
 use Rattle.machine.specs.System.{System}
-use Rattle.machine.specs.Machine.{Rooms, Outcome, nonempty, empty, stepsLack, blockersLack, wordLacks, startsFinal}
+use Rattle.machine.specs.Machine.{Configuration, Rooms, Outcome, nonempty, empty, stepsLack, blockersLack, wordLacks, startsFinal}
 use Rattle.machine.proofs.Language.{IsVerdict, AnswersStart, Word, accepts, Lawful, NoneAccepted, Shortest, SameLanguage}
 use Rattle.machine.proofs.Language.{Agree, both-nonempty, both-empty, both-at-start}
 use Rattle.machine.proofs.Verdicts.{closed-none, RightAnswer}
@@ -36,11 +36,11 @@ none-shortest : {S S′ : System} {word : List ℕ} → SameLanguage S S′ → 
 none-shortest {word = word} same h none = let other = accepted-too same h in none word (other .0) (other .1)
 
 -- a run beside one that found the start final found it so too
-at-start-too : {S S′ : System} {edition : ℕ} {outcome : Outcome} → SameLanguage S S′ → (edition ≡ 2) × T (accepts S′ [])
+at-start-too : {S S′ : System} {edition : ℕ} {outcome : Outcome} → SameLanguage S S′ → edition ≡ 2 → T (accepts S′ [])
     → AnswersStart S edition outcome → Agree outcome startsFinal
-at-start-too same r′ a =
-    let accepted = subst T (sym (same .accepted [] (λ s m. absurd (in-none m)))) (r′ .1) in
-    subst (λ (o : Outcome). Agree o startsFinal) (sym (a (r′ .0) accepted)) both-at-start
+at-start-too same second start a =
+    let accepted = subst T (sym (same .accepted [] (λ s m. absurd (in-none m)))) start in
+    subst (λ (o : Outcome). Agree o startsFinal) (sym (a second accepted)) both-at-start
 
 agree-symmetric : {outcome outcome′ : Outcome} → Agree outcome outcome′ → Agree outcome′ outcome
 agree-symmetric (both-nonempty e) = both-nonempty (sym e)
@@ -49,23 +49,23 @@ agree-symmetric both-at-start = both-at-start
 
 module _ {S S′ : System} (lawful : Lawful S) (lawful′ : Lawful S′) (same : SameLanguage S S′) (rooms rooms′ : Rooms) (edition : ℕ) where
   -- two right verdicts about one language agree, within one edition
-  pub right-verdicts-agree : (outcome outcome′ : Outcome) → IsVerdict outcome → IsVerdict outcome′ → RightAnswer S rooms edition outcome
-      → RightAnswer S′ rooms′ edition outcome′ → AnswersStart S edition outcome → AnswersStart S′ edition outcome′ → Agree outcome outcome′
-  right-verdicts-agree (nonempty word c) (nonempty word′ c′) v v′ r r′ a a′ = both-nonempty (shortest-equal same (r .shortest) (r′ .shortest))
-  right-verdicts-agree (nonempty word c) (empty c′) v v′ r r′ a a′ =
-      absurd (none-shortest same (r .shortest) (closed-none S′ lawful′ (c′ .table) r′))
-  right-verdicts-agree (nonempty word c) (stepsLack c′) v v′ r r′ a a′ = absurd v′
-  right-verdicts-agree (nonempty word c) (blockersLack c′) v v′ r r′ a a′ = absurd v′
-  right-verdicts-agree (nonempty word c) (wordLacks c′) v v′ r r′ a a′ = absurd v′
-  right-verdicts-agree (nonempty word c) startsFinal v v′ r r′ a a′ = at-start-too same r′ a
-  right-verdicts-agree (empty c) (nonempty word′ c′) v v′ r r′ a a′ =
-      absurd (none-shortest (same-language-symmetric same) (r′ .shortest) (closed-none S lawful (c .table) r))
-  right-verdicts-agree (empty c) (empty c′) v v′ r r′ a a′ = both-empty
-  right-verdicts-agree (empty c) (stepsLack c′) v v′ r r′ a a′ = absurd v′
-  right-verdicts-agree (empty c) (blockersLack c′) v v′ r r′ a a′ = absurd v′
-  right-verdicts-agree (empty c) (wordLacks c′) v v′ r r′ a a′ = absurd v′
-  right-verdicts-agree (empty c) startsFinal v v′ r r′ a a′ = at-start-too same r′ a
-  right-verdicts-agree (stepsLack c) outcome′ v v′ r r′ a a′ = absurd v
-  right-verdicts-agree (blockersLack c) outcome′ v v′ r r′ a a′ = absurd v
-  right-verdicts-agree (wordLacks c) outcome′ v v′ r r′ a a′ = absurd v
-  right-verdicts-agree startsFinal outcome′ v v′ r r′ a a′ = agree-symmetric (at-start-too (same-language-symmetric same) r a′)
+  pub right-verdicts-agree : (outcome outcome′ : Outcome) (left left′ : Configuration) → IsVerdict outcome → IsVerdict outcome′ → RightAnswer S rooms edition outcome left
+      → RightAnswer S′ rooms′ edition outcome′ left′ → AnswersStart S edition outcome → AnswersStart S′ edition outcome′ → Agree outcome outcome′
+  right-verdicts-agree (nonempty word) (nonempty word′) left left′ v v′ r r′ a a′ = both-nonempty (shortest-equal same (r .shortest) (r′ .shortest))
+  right-verdicts-agree (nonempty word) empty left left′ v v′ r r′ a a′ =
+      absurd (none-shortest same (r .shortest) (closed-none S′ lawful′ (left′ .table) r′))
+  right-verdicts-agree (nonempty word) stepsLack left left′ v v′ r r′ a a′ = absurd v′
+  right-verdicts-agree (nonempty word) blockersLack left left′ v v′ r r′ a a′ = absurd v′
+  right-verdicts-agree (nonempty word) wordLacks left left′ v v′ r r′ a a′ = absurd v′
+  right-verdicts-agree (nonempty word) startsFinal left left′ v v′ r r′ a a′ = at-start-too same (r′ .0) (r′ .1) a
+  right-verdicts-agree empty (nonempty word′) left left′ v v′ r r′ a a′ =
+      absurd (none-shortest (same-language-symmetric same) (r′ .shortest) (closed-none S lawful (left .table) r))
+  right-verdicts-agree empty empty left left′ v v′ r r′ a a′ = both-empty
+  right-verdicts-agree empty stepsLack left left′ v v′ r r′ a a′ = absurd v′
+  right-verdicts-agree empty blockersLack left left′ v v′ r r′ a a′ = absurd v′
+  right-verdicts-agree empty wordLacks left left′ v v′ r r′ a a′ = absurd v′
+  right-verdicts-agree empty startsFinal left left′ v v′ r r′ a a′ = at-start-too same (r′ .0) (r′ .1) a
+  right-verdicts-agree stepsLack outcome′ left left′ v v′ r r′ a a′ = absurd v
+  right-verdicts-agree blockersLack outcome′ left left′ v v′ r r′ a a′ = absurd v
+  right-verdicts-agree wordLacks outcome′ left left′ v v′ r r′ a a′ = absurd v
+  right-verdicts-agree startsFinal outcome′ left left′ v v′ r r′ a a′ = agree-symmetric (at-start-too (same-language-symmetric same) (r .0) (r .1) a′)

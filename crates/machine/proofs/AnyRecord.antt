@@ -1,7 +1,7 @@
 -- A step on any record and tables, made by a begin or not. What it leaves of a record that passes the checks passes them again, in tables of the same
 -- lengths: this needs no law of the system. Assumes nothing.
 use Prim.Native.Nat.{ℕ, zero, suc, _≤_}
-use mathlib.Core.Path.{_≡_, refl, ap, subst, _∙_}
+use mathlib.Core.Path.{_≡_, refl, sym, ap, subst, _∙_}
 use mathlib.Core.Bool.{Bool, true, false}
 use mathlib.Core.List.{List, [], _∷_}
 use native.Mathlib.Omega.{arith}
@@ -15,10 +15,10 @@ use Rattle.automata.proofs.ValidImage.{check-fails}
 use Rattle.machine.specs.System.{System}
 use Rattle.machine.specs.Machine.{Blocker, Pending, Configuration, Given, Rooms, Step, Next, goesOn, ends, comesTo, advance}
 use Rattle.machine.specs.Machine.{openStep, extendStep, blockStep, closeWith}
-use Rattle.machine.specs.Lent.{column, maskOf, levelOf, enteredOf, caseOf, symbolOf, placed, withTable}
-use Rattle.machine.specs.Runs.{Lent, Terms, systemOf, givenOf, roomsOf, numberOf, casesIn, symbolsIn, tablesAfter}
+use Rattle.machine.specs.Lent.{WordRoom, Lent, column, columnBack, maskOf, levelOf, enteredOf, caseOf, symbolOf, placed, withTable, withPending, withWord}
+use Rattle.machine.specs.Runs.{Terms, RunRecord, Stage, systemOf, givenOf, roomsOf, endNumber, numberOf, recordOf, wordIn, wordLeft, tablesAfter}
 use Rattle.machine.specs.Runs.{oddRooms, oversize, checkTerms, checkRun}
-use Rattle.machine.specs.Records.{RunRecord, Stage, configurationOf, pendingOf, recordOf, after, workingStep, Called, answering}
+use Rattle.machine.specs.Records.{configurationOf, after, workingStep, Called, answering}
 use Rattle.machine.specs.Records.{broken, checkRecord, checkStep, stepWith, stepOf, stepsFrom}
 use Rattle.machine.specs.Promises.{Unbroken, Changed, RoomChanged, Changes}
 use Rattle.machine.proofs.Passing.{qualified-above}
@@ -31,32 +31,43 @@ use Rattle.machine.proofs.LentTables.{column-length, column-back-length
 use Rattle.machine.proofs.Judging.{Even, number-low, wordless}
 use Rattle.machine.proofs.RunsKept.{checked}
 
--- where the machine has come to from a configuration in which so many cases were pending: no more are pending than there are levels, and a word that
--- was found has a symbol for each that was
+-- nothing is pending where a run has ended
+abbrev Halts : Next → Type 0
+Halts (goesOn c) = Unit {0}
+Halts (ends outcome c) = c .pending ≡ []
+
+-- the word that was found
+abbrev foundIn : Next → List ℕ
+foundIn (goesOn c) = []
+foundIn (ends outcome c) = wordIn outcome
+
+-- where the machine has come to from a configuration in which so many cases were pending: no more are pending than there are levels, none where the run has
+-- ended, and a word that was found has a symbol for each that was
 record FewPending (before : ℕ) (n : Next) : Type 0 where
-  few : pendingOf n ≤ comesTo n .level
-  word : numberOf n ≡ 1 → length (symbolsIn n) ≡ before
+  few : length (comesTo n .pending) ≤ comesTo n .level
+  halts : Halts n
+  word : numberOf n ≡ 1 → length (foundIn n) ≡ before
 
 taken-few : {S : System} {given : Given} {rooms : Rooms} {c : Configuration} {pending : List Pending} {isOpen : Bool} {st : Step} {n : Next}
     → Taken S given c pending isOpen st → Judged rooms c st n → length pending ≤ c .level → FewPending (length pending) n
-unfolding openStep extendStep blockStep closeWith pendingOf numberOf symbolsIn
+unfolding openStep extendStep blockStep closeWith numberOf endNumber wordIn
 taken-few {S} {c = c} opening (roomToOpen k) l =
-    record { few = omega (arith, finals-few S (c .table) (suc (c .level))); word = λ e. absurd (omega arith) }
-taken-few opening (noRoomToOpen k) l = record { few = omega arith; word = λ e. absurd (omega arith) }
-taken-few (finding {p = p} {rest = rest} s i t u) found l = record { few = omega arith; word = λ e. ap suc (word-length p rest) }
+    record { few = omega (arith, finals-few S (c .table) (suc (c .level))); halts = tt; word = λ e. absurd (omega arith) }
+taken-few opening (noRoomToOpen k) l = record { few = omega arith; halts = refl; word = λ e. absurd (omega arith) }
+taken-few (finding {p = p} {rest = rest} s i t u) found l = record { few = omega arith; halts = refl; word = λ e. ap suc (word-length p rest) }
 taken-few {S} {c = c} (extending {p = p} {rest = rest} s i t u) extended l =
-    record { few = omega (arith, qualified-above S (c .table) (under c rest) (p .case) s t u); word = λ e. absurd (omega arith) }
+    record { few = omega (arith, qualified-above S (c .table) (under c rest) (p .case) s t u); halts = tt; word = λ e. absurd (omega arith) }
 taken-few {S} {c = c} (blocking {rest = rest} f) (roomToBlock {d = d} k) l =
-    record { few = after-few S (d .table) (c .level) rest (omega arith); word = λ e. absurd (omega arith) }
-taken-few (blocking f) (noRoomToBlock k) l = record { few = omega arith; word = λ e. absurd (omega arith) }
-taken-few (closing e) closed l = record { few = omega arith; word = λ e. absurd (omega arith) }
-taken-few (emptying j i h t) emptied l = record { few = omega arith; word = λ e. absurd (omega arith) }
+    record { few = after-few S (d .table) (c .level) rest (omega arith); halts = tt; word = λ e. absurd (omega arith) }
+taken-few (blocking f) (noRoomToBlock k) l = record { few = omega arith; halts = refl; word = λ e. absurd (omega arith) }
+taken-few (closing e) closed l = record { few = omega arith; halts = tt; word = λ e. absurd (omega arith) }
+taken-few (emptying j i h t) emptied l = record { few = omega arith; halts = refl; word = λ e. absurd (omega arith) }
 
 advanced-few : {S : System} {rooms : Rooms} {given : Given} {c : Configuration} {n : Next} → Advanced S rooms given c n
     → length (c .pending) ≤ c .level → FewPending (length (c .pending)) n
-unfolding pendingOf numberOf symbolsIn
+unfolding numberOf endNumber wordIn
 advanced-few {given = given} {c = c} (tried k j) l = taken-few (step-taken {given = given} c) j l
-advanced-few (spent k) l = record { few = omega arith; word = λ e. absurd (omega arith) }
+advanced-few (spent k) l = record { few = omega arith; halts = refl; word = λ e. absurd (omega arith) }
 
 -- 33's test as the proposition, and the proposition as the test
 pub unbroken-means : (rooms : Rooms) (run : RunRecord) → broken rooms run ≡ false → Unbroken rooms run
@@ -93,8 +104,8 @@ pub record SameLengths (lent tables : Lent) : Type 0 where
   pub masks : length (tables .room .masks) ≡ length (lent .room .masks)
   pub levels : length (tables .room .levels) ≡ length (lent .room .levels)
   pub entered : length (tables .room .entered) ≡ length (lent .room .entered)
-  pub cases : length (tables .cases) ≡ length (lent .cases)
-  pub symbols : length (tables .symbols) ≡ length (lent .symbols)
+  pub cases : length (tables .word .cases) ≡ length (lent .word .cases)
+  pub symbols : length (tables .word .symbols) ≡ length (lent .word .symbols)
 
 pub lengths-same : (lent : Lent) → SameLengths lent lent
 lengths-same lent = record { masks = refl; levels = refl; entered = refl; cases = refl; symbols = refl }
@@ -198,21 +209,10 @@ module _ {image : List ℕ} {terms : Terms} {at : Stage} where
   stepped-works (finished e f) none six = absurd (f six)
   stepped-works (worked e w) none six = refl
 
--- what the word room then holds: a case and a symbol for each case that is pending, if no word was found
-cases-length : (n : Next) → length (casesIn n) ≡ pendingOf n
-unfolding casesIn pendingOf
-cases-length (goesOn c) = column-back-length caseOf (c .pending)
-cases-length (ends o) = refl
-
-symbols-length : (n : Next) → (numberOf n ≡ 1 → ⊥) → length (symbolsIn n) ≡ pendingOf n
-unfolding symbolsIn pendingOf
-symbols-length (goesOn c) f = column-back-length symbolOf (c .pending)
-symbols-length (ends o) f = ap length (wordless o f)
-
 answer-low : (n : Next) → numberOf n ≤ 6
 unfolding numberOf
 answer-low (goesOn c) = omega arith
-answer-low (ends o) = omega (arith, number-low o)
+answer-low (ends o c) = omega (arith, number-low o)
 
 -- the tables where the machine has come to n, of which so many places were in use before
 module _ (lent : Lent) (even : Even lent) (held waiting : ℕ) (n : Next) where
@@ -234,15 +234,27 @@ module _ (lent : Lent) (even : Even lent) (held waiting : ℕ) (n : Next) where
     entered = table-changed enteredOf (lent .room .entered) (even .blockers .entered) l h;
   }
 
-  pub cases-changed : {size : ℕ} → length (casesIn n) ≡ size → waiting ≤ length (lent .cases) → size ≤ length (lent .cases)
-      → Changed waiting size (lent .cases) (afterwards .cases)
-  unfolding tablesAfter
-  cases-changed e l h = placed-changed waiting (casesIn n) (lent .cases) e l h
+-- a case and a symbol for each case that is pending, if no word was found
+module _ (room : WordRoom) (even : length (room .cases) ≡ length (room .symbols)) (waiting : ℕ) (few : waiting ≤ length (room .cases)) where
+  pub cases-changed : (n : Next) → Halts n → length (comesTo n .pending) ≤ length (room .cases)
+      → Changed waiting (length (comesTo n .pending)) (room .cases) (wordLeft waiting n room .cases)
+  unfolding wordLeft withPending withWord
+  cases-changed (goesOn c) halts l = placed-changed waiting (columnBack caseOf (c .pending)) (room .cases) (column-back-length caseOf (c .pending)) few l
+  cases-changed (ends o c) halts l = placed-changed waiting [] (room .cases) (sym (ap length halts)) few l
 
-  symbols-changed : {size : ℕ} → length (symbolsIn n) ≡ size → waiting ≤ length (lent .cases) → size ≤ length (lent .cases)
-      → Changed waiting size (lent .symbols) (afterwards .symbols)
-  unfolding tablesAfter
-  symbols-changed e l h = placed-changed waiting (symbolsIn n) (lent .symbols) e (omega (arith, even .symbols)) (omega (arith, even .symbols))
+  symbols-changed : (n : Next) → Halts n → (numberOf n ≡ 1 → ⊥) → length (comesTo n .pending) ≤ length (room .cases)
+      → Changed waiting (length (comesTo n .pending)) (room .symbols) (wordLeft waiting n room .symbols)
+  unfolding wordLeft withPending withWord numberOf
+  symbols-changed (goesOn c) halts f l =
+      placed-changed waiting (columnBack symbolOf (c .pending)) (room .symbols) (column-back-length symbolOf (c .pending)) (omega arith) (omega arith)
+  symbols-changed (ends o c) halts f l =
+      placed-changed waiting (wordIn o) (room .symbols) (ap length (wordless o f) ∙ sym (ap length halts)) (omega arith) (omega arith)
+
+  -- the word has as many symbols as cases were pending
+  word-changed : (n : Next) → numberOf n ≡ 1 → length (foundIn n) ≡ waiting → Changed waiting waiting (room .symbols) (wordLeft waiting n room .symbols)
+  unfolding wordLeft withWord numberOf
+  word-changed (goesOn c) one e = absurd (omega arith)
+  word-changed (ends o c) one e = placed-changed waiting (wordIn o) (room .symbols) e (omega arith) (omega arith)
 
 -- a table that stays
 unchanged : (used : ℕ) (table : List ℕ) → Changed used used table table
@@ -266,7 +278,7 @@ changes-lengths {at} {called} c = record {
   symbols = by (eqb (called .number) 1) refl;
 }
   where
-    by : (b : Bool) → eqb (called .number) 1 ≡ b → length (called .left .tables .symbols) ≡ length (at .tables .symbols)
+    by : (b : Bool) → eqb (called .number) 1 ≡ b → length (called .left .tables .word .symbols) ≡ length (at .tables .word .symbols)
     by true e = c .word (eqb-true _ _ e) .long
     by false e = c .symbols (eqb-false _ _ e) .long
 
@@ -284,19 +296,20 @@ module _ (image : List ℕ) (given : Given) (at : Stage) (even : Even (at .table
 
   waiting : FewPending (at .run .pending) made
   waiting =
-      let long : length (configurationOf at .pending) ≡ at .run .pending = pending-length (at .tables .cases) (at .tables .symbols) (at .run .pending) in
+      let long : length (configurationOf at .pending) ≡ at .run .pending = pending-length (at .tables .word) (at .run .pending) in
       subst (λ (before : ℕ). FewPending before made) long (advanced-few how (omega (arith, long, bounds .pending)))
 
   work-changes : Changes at (answering (workingStep image given at))
-  unfolding workingStep after recordOf made
+  unfolding workingStep after recordOf tablesAfter made
   work-changes =
-      let few : at .run .pending ≤ length (at .tables .cases) = omega (arith, bounds) in
-      let fewer : pendingOf made ≤ length (at .tables .cases) = omega (arith, waiting .few, counted .word-fits) in
+      let word = at .tables .word in
+      let few : at .run .pending ≤ length (at .tables .word .cases) = omega (arith, bounds) in
+      let fewer : length (comesTo made .pending) ≤ length (at .tables .word .cases) = omega (arith, waiting .few, counted .word-fits) in
       record {
         room = room-changed (at .tables) even (at .run .held) (at .run .pending) made (bounds .held) (counted .table-fits);
-        cases = cases-changed (at .tables) even (at .run .held) (at .run .pending) made (cases-length made) few fewer;
-        symbols = λ f. symbols-changed (at .tables) even (at .run .held) (at .run .pending) made (symbols-length made f) few fewer;
-        word = λ e. symbols-changed (at .tables) even (at .run .held) (at .run .pending) made (waiting .word e) few few;
+        cases = cases-changed word (even .symbols) (at .run .pending) few made (waiting .halts) fewer;
+        symbols = λ f. symbols-changed word (even .symbols) (at .run .pending) few made (waiting .halts) f fewer;
+        word = λ e. word-changed word (even .symbols) (at .run .pending) few made e (waiting .word e);
       }
 
   -- what it leaves, the next step takes

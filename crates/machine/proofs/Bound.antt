@@ -16,9 +16,9 @@ use Rattle.masks.proofs.Laws.{within-below, suc-full}
 use Rattle.machine.specs.System.{System}
 use Rattle.machine.specs.Machine.{Blocker, Pending, Configuration, Given, Rooms, beginning, staying, pendingAfter, chosen}
 use Rattle.machine.specs.Machine.{Step, openStep, extendStep, blockStep, closeWith, goesOn, ends, Outcome}
-use Rattle.machine.proofs.Language.{Lawful, Sound, Decided, decidedNonempty, decidedEmpty}
+use Rattle.machine.proofs.Language.{Lawful, Sound, Decided}
 use Rattle.machine.proofs.Tables.{byBlocker, blocked-covered}
-use Rattle.machine.proofs.Rising.{placed, levels-grown}
+use Rattle.machine.proofs.Rising.{putAmong, levels-grown}
 use Rattle.machine.proofs.Passing.{Passes, chosen-is, chosen-passes}
 use Rattle.machine.proofs.Steps.{under, closedTable, madeBy, step-counts}
 use Rattle.machine.proofs.Steps.{Taken, opening, finding, extending, blocking, closing, emptying, step-taken}
@@ -61,7 +61,7 @@ after-length S table N (p ∷ rest) = omega arith
 -- a block blocks a pair that was not blocked
 block-more : {S : System} {table : List Blocker} {N : ℕ} {p : Pending} {rest : List Pending} (inv : Invariant S table N (p ∷ rest)) {mask : ℕ} (entered : ℕ)
     → Passes S table (N - suc (length rest)) (p .case) mask → N ≤ 2 ^ S .states
-    → blockedPairs S table < blockedPairs S (placed table (entering N rest mask entered) [])
+    → blockedPairs S table < blockedPairs S (putAmong table (entering N rest mask entered) [])
 block-more {S} {table} {N} {p} {rest} inv entered passing l =
     let own = chain-lowest (inv .chain) in
     pairs-more S (block-grown inv entered passing .grows) (N - suc (length rest)) (p .case)
@@ -80,7 +80,7 @@ module _ {S : System} (lawful : Lawful S) where
   bounded-goes : {given : Given} → Sound S (given .grow) → {rooms : Rooms} {c d : Configuration} {pending : List Pending} {isOpen : Bool} {st : Step}
       → Taken S given c pending isOpen st → Judged rooms c st (goesOn d) → Invariant S (c .table) (c .level) pending → c .isOpen ≡ isOpen
       → c .level + shut isOpen ≤ 2 ^ S .states → c .steps < measure S (c .table) (c .level) pending isOpen → Bounded S d
-  unfolding openStep extendStep blockStep closeWith measure placed staying keep bit neg
+  unfolding openStep extendStep blockStep closeWith measure putAmong staying keep bit neg
   bounded-goes sound opening (roomToOpen k) h e l m = omega arith
   bounded-goes sound (extending s k t u) extended h e l m = omega (arith, ap shut e)
   bounded-goes {given} sound {c = c} (blocking {p = p} {rest = rest} f) (roomToBlock k) h e l m =
@@ -104,19 +104,19 @@ module _ {S : System} (lawful : Lawful S) where
 
   module _ (rooms : Rooms) (blockers-suffice : 2 ^ S .states ≤ rooms .blockers) (word-suffices : 2 ^ S .states ≤ rooms .word) where
     -- a step that ends the run answers: there was room for it
-    ends-decided : {given : Given} {c : Configuration} {pending : List Pending} {isOpen : Bool} {st : Step} {outcome : Outcome}
-        → Taken S given c pending isOpen st → Judged rooms c st (ends outcome) → Right S st → c .level + shut isOpen ≤ 2 ^ S .states
-        → madeBy st .steps ≤ 4 ^ suc (S .states) → Decided (4 ^ suc (S .states)) outcome
+    ends-decided : {given : Given} {c : Configuration} {pending : List Pending} {isOpen : Bool} {st : Step} {outcome : Outcome} {left : Configuration}
+        → Taken S given c pending isOpen st → Judged rooms c st (ends outcome left) → Right S st → c .level + shut isOpen ≤ 2 ^ S .states
+        → madeBy st .steps ≤ 4 ^ suc (S .states) → Decided (4 ^ suc (S .states)) outcome left
     unfolding openStep extendStep blockStep closeWith bit neg
     ends-decided opening (noRoomToOpen k) r l steps = absurd (omega arith)
-    ends-decided (finding s i t u) found r l steps = decidedNonempty steps
+    ends-decided (finding s i t u) found r l steps = record { verdict = tt; in-time = steps }
     ends-decided (blocking f) (noRoomToBlock k) r l steps = absurd (omega (arith, few-blockers lawful (r .kept)))
-    ends-decided (emptying j i h t) emptied r l steps = decidedEmpty steps
+    ends-decided (emptying j i h t) emptied r l steps = record { verdict = tt; in-time = steps }
 
     -- a call that ends a run gives a verdict: its allowance is not used up, and there is room
-    pub advanced-decided : FinalsClear S → {given : Given} {c : Configuration} {outcome : Outcome} → Sound S (given .grow)
-        → 4 ^ suc (S .states) ≤ given .allowance → Holds S c → Bounded S c → Advanced S rooms given c (ends outcome)
-        → Decided (4 ^ suc (S .states)) outcome
+    pub advanced-decided : FinalsClear S → {given : Given} {c left : Configuration} {outcome : Outcome} → Sound S (given .grow)
+        → 4 ^ suc (S .states) ≤ given .allowance → Holds S c → Bounded S c → Advanced S rooms given c (ends outcome left)
+        → Decided (4 ^ suc (S .states)) outcome left
     advanced-decided clear {given} {c} sound enough h b (tried l j) =
         ends-decided (step-taken {given = given} c) j
         (step-right S lawful clear given sound c h) (b .level-low)

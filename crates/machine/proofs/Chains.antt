@@ -18,13 +18,13 @@ use Rattle.machine.specs.System.{System}
 use Rattle.machine.specs.Machine.{Configuration, Given, Rooms, beginning, Step, step}
 use Rattle.machine.specs.Machine.{Next, goesOn, ends, comesTo, judge, advance, chain, startAnswer, start, begin, Outcome, nonempty, startsFinal}
 use Rattle.machine.specs.Meaning.{Lacks, EndingCall, EndedBy, raise, Raised, raisedNone, raisedOne}
-use Rattle.machine.proofs.Language.{accepts, Lawful, Sound, Decided, decidedNonempty, decidedAtStart, IsVerdict, AnswersStart}
+use Rattle.machine.proofs.Language.{accepts, Lawful, Sound, Decided, IsVerdict, AnswersStart}
 use Rattle.machine.proofs.Steps.{Judged, roomToOpen, extended, roomToBlock, closed, found, emptied, noRoomToOpen, noRoomToBlock}
 use Rattle.machine.proofs.Steps.{Advanced, tried, spent, advanced, advanced-counts, advance-made, step-raised}
 use Rattle.machine.proofs.Steps.{chain-keeps, ended-stays, chain-ended-by, works-or-ended, works-once, ends-once, madeBy, step-counts}
 use Rattle.machine.proofs.Invariant.{FinalsClear, beginning-holds}
 use Rattle.machine.proofs.Verdicts.{Holds, RightAnswer, clear-finals, start-accepts, clear-start, start-found, advanced-right}
-use Rattle.machine.proofs.Standing.{Counted, advanced-counted, beginning-counted}
+use Rattle.machine.proofs.Standing.{Counted, advanced-counted, advanced-halts, beginning-counted}
 use Rattle.machine.proofs.Entering.{Stamped, advanced-stamped, beginning-stamped}
 use Rattle.machine.proofs.Bound.{Bounded, advanced-bounded, working-few, advanced-decided, beginning-bounded}
 
@@ -37,15 +37,16 @@ pub record Working (S : System) (rooms : Rooms) (c : Configuration) : Type 0 whe
   pub bounded : Bounded S c
 
 -- what holds of a run that was begun in this edition and has ended
-pub record Done (S : System) (rooms : Rooms) (edition : ℕ) (outcome : Outcome) : Type 0 where
-  pub right : RightAnswer S rooms edition outcome
+pub record Done (S : System) (rooms : Rooms) (edition : ℕ) (outcome : Outcome) (left : Configuration) : Type 0 where
+  pub right : RightAnswer S rooms edition outcome left
   pub start : AnswersStart S edition outcome
-  pub counted : Counted rooms (comesTo (ends outcome))
-  pub stamped : Stamped (comesTo (ends outcome))
+  pub counted : Counted rooms left
+  pub stamped : Stamped left
+  pub halts : left .pending ≡ []
 
 abbrev pub Sure : System → Rooms → ℕ → Next → Type 0
 Sure S rooms edition (goesOn c) = Working S rooms c
-Sure S rooms edition (ends outcome) = Done S rooms edition outcome
+Sure S rooms edition (ends outcome left) = Done S rooms edition outcome left
 
 -- each call grows soundly
 abbrev pub AllSound : System → List Given → Type 0
@@ -59,7 +60,8 @@ pub record Works (n : Next) : Type 0 where
 -- the run works no more
 pub record Ended (n : Next) : Type 0 where
   pub outcome : Outcome
-  pub is : n ≡ ends outcome
+  pub left : Configuration
+  pub is : n ≡ ends outcome left
 
 -- what holds of one holds of it so many times
 pub each-same : (P : Given → Type 0) (given : Given) → P given → (count : ℕ) → Each P (replicate count given)
@@ -76,8 +78,8 @@ Within most n = comesTo n .steps ≤ most
 
 -- "Start: if I is a subset of F, answer 1 with the empty word and 0 steps. Otherwise steps follow." 02, 6: "2 answers such a start by 5"
 pub data Begun (S : System) (edition : ℕ) : Next → Type 0 where
-  answered : any (subset (S .initial)) (S .finals) ≡ true → (edition ≡ 2 → ⊥) → Begun S edition (ends (nonempty [] beginning))
-  finalAtOnce : any (subset (S .initial)) (S .finals) ≡ true → edition ≡ 2 → Begun S edition (ends startsFinal)
+  answered : any (subset (S .initial)) (S .finals) ≡ true → (edition ≡ 2 → ⊥) → Begun S edition (ends (nonempty []) beginning)
+  finalAtOnce : any (subset (S .initial)) (S .finals) ≡ true → edition ≡ 2 → Begun S edition (ends startsFinal beginning)
   started : any (subset (S .initial)) (S .finals) ≡ false → Begun S edition (goesOn beginning)
 
 pub begin-begun : (S : System) (edition : ℕ) → Begun S edition (begin S edition)
@@ -85,7 +87,7 @@ unfolding start startAnswer choose
 begin-begun S edition = at (any (subset (S .initial)) (S .finals)) refl (eqb edition 2) refl
   where
     at : (b : Bool) → any (subset (S .initial)) (S .finals) ≡ b → (second : Bool) → eqb edition 2 ≡ second
-        → Begun S edition (choose b (ends (choose second startsFinal (nonempty [] beginning))) (goesOn beginning))
+        → Begun S edition (choose b (ends (choose second startsFinal (nonempty [])) beginning) (goesOn beginning))
     at true e true f = finalAtOnce e (eqb-true edition 2 f)
     at true e false f = answered e (eqb-false edition 2 f)
     at false e second f = started e
@@ -97,29 +99,29 @@ begin-alike S not-final edition other = rw (sym (start-accepts S) ∙ is-false _
 
 module _ (S : System) (rooms : Rooms) where
   -- a call that ends without a verdict lacks steps or room
-  lacked : (last : Given) {c : Configuration} {st : Step} {outcome : Outcome} → step S last c ≡ st → c .steps < last .allowance
-      → Counted rooms c → Judged rooms c st (ends outcome) → Lacks S rooms last c outcome
+  lacked : (last : Given) {c left : Configuration} {st : Step} {outcome : Outcome} → step S last c ≡ st → c .steps < last .allowance
+      → Counted rooms c → Judged rooms c st (ends outcome left) → Lacks S rooms last c outcome left
   lacked last e l k found = tt
   lacked last e l k emptied = tt
   lacked last e l k (noRoomToOpen {d = d} h) = (refl, record { allowed = l; after = d; following = e; full = omega (arith, k .word-fits) })
   lacked last e l k (noRoomToBlock {d = d} h) = (refl, record { allowed = l; after = d; following = e; full = h })
 
-  pub advanced-lacks : {last : Given} {c : Configuration} {outcome : Outcome} → Counted rooms c → Advanced S rooms last c (ends outcome)
-      → Lacks S rooms last c outcome
+  pub advanced-lacks : {last : Given} {c left : Configuration} {outcome : Outcome} → Counted rooms c → Advanced S rooms last c (ends outcome left)
+      → Lacks S rooms last c outcome left
   advanced-lacks {last} k (tried l j) = lacked last refl l k j
   advanced-lacks k (spent l) = (refl, l)
 
   -- what the call that ended a chain found, and that it is one of the chain's
-  pub ended-advanced : {n : Next} {given : List Given} {outcome : Outcome} (by : EndingCall S rooms n given outcome)
-      → Advanced S rooms (by .last) (by .at) (ends outcome)
+  pub ended-advanced : {n : Next} {given : List Given} {outcome : Outcome} {left : Configuration} (by : EndingCall S rooms n given outcome left)
+      → Advanced S rooms (by .last) (by .at) (ends outcome left)
   ended-advanced by = subst (λ (n : Next). Advanced S rooms (by .last) (by .at) n) (by .ended) (advanced S rooms (by .last) (by .at))
 
-  pub ended-each : {n : Next} {given : List Given} {outcome : Outcome} (P : Given → Type 0) → Each P given
-      → (by : EndingCall S rooms n given outcome) → Each P (by .before ++ by .last ∷ by .later)
+  pub ended-each : {n : Next} {given : List Given} {outcome : Outcome} {left : Configuration} (P : Given → Type 0) → Each P given
+      → (by : EndingCall S rooms n given outcome left) → Each P (by .before ++ by .last ∷ by .later)
   ended-each P all by = subst (λ (l : List Given). Each P l) (by .split) all
 
-  pub ended-last : {n : Next} {given : List Given} {outcome : Outcome} (P : Given → Type 0) → Each P given
-      → (by : EndingCall S rooms n given outcome) → P (by .last)
+  pub ended-last : {n : Next} {given : List Given} {outcome : Outcome} {left : Configuration} (P : Given → Type 0) → Each P given
+      → (by : EndingCall S rooms n given outcome left) → P (by .last)
   ended-last P all by = ended-each P all by (by .last) (in-right (by .before) (here refl))
 
   -- a chain that works counts its calls
@@ -132,17 +134,17 @@ module _ (S : System) (rooms : Rooms) where
       at : ((x : Configuration) → chain S rooms (goesOn x) later ≡ goesOn d → d .steps ≡ x .steps + length later)
           → (n : Next) → Advanced S rooms given c n → chain S rooms n later ≡ goesOn d → d .steps ≡ c .steps + suc (length later)
       at rec (goesOn x) a f = omega (arith, rec x f, advanced-counts S rooms a)
-      at rec (ends o) a f = absurd (works-or-ended (sym (sym (ended-stays S rooms o later) ∙ f)))
+      at rec (ends o left) a f = absurd (works-or-ended (sym (sym (ended-stays S rooms o left later) ∙ f)))
 
   pub working-steps : (edition : ℕ) {c : Configuration} (given : List Given) → chain S rooms (begin S edition) given ≡ goesOn c → c .steps ≡ length given
   unfolding beginning
   working-steps edition {c} given = at (begin-begun S edition)
     where
-      over : (o : Outcome) → chain S rooms (ends o) given ≡ goesOn c → ⊥
-      over o e = works-or-ended (sym (sym (ended-stays S rooms o given) ∙ e))
+      over : (o : Outcome) → chain S rooms (ends o beginning) given ≡ goesOn c → ⊥
+      over o e = works-or-ended (sym (sym (ended-stays S rooms o beginning given) ∙ e))
 
       at : {n : Next} → Begun S edition n → chain S rooms n given ≡ goesOn c → c .steps ≡ length given
-      at (answered b f) e = absurd (over (nonempty [] beginning) e)
+      at (answered b f) e = absurd (over (nonempty []) e)
       at (finalAtOnce b f) e = absurd (over startsFinal e)
       at (started b) e = omega (arith, steps-counted beginning given e)
 
@@ -166,7 +168,7 @@ module _ (S : System) (rooms : Rooms) where
   call-within : (most : ℕ) (given : Given) (n : Next) → given .allowance ≤ most → Within most n → Within most (advance S rooms given n)
   unfolding advance
   call-within most given (goesOn c) l w = advanced-within l w (advanced S rooms given c)
-  call-within most given (ends outcome) l w = w
+  call-within most given (ends outcome left) l w = w
 
   begin-within : (most edition : ℕ) → Within most (begin S edition)
   unfolding beginning
@@ -189,16 +191,19 @@ module _ (S : System) (rooms : Rooms) where
     where
       at : (n : Next) → chain S rooms (begin S edition) (replicate (suc (given .allowance)) given) ≡ n → Within (given .allowance) n → Ended n
       at (goesOn c) e w = absurd (omega (arith, working-steps edition _ e, length-replicate (suc (given .allowance)) given))
-      at (ends outcome) e w = record { outcome = outcome; is = refl }
+      at (ends outcome left) e w = record { outcome = outcome; left = left; is = refl }
 
   -- a verdict at the start comes at once
-  begin-decided : (most edition : ℕ) {outcome : Outcome} → begin S edition ≡ ends outcome → Decided most outcome
+  begin-decided : (most edition : ℕ) {outcome : Outcome} {left : Configuration} → begin S edition ≡ ends outcome left → Decided most outcome left
   unfolding beginning
-  begin-decided most edition {outcome} = at (begin-begun S edition)
+  begin-decided most edition {outcome} {left} = at (begin-begun S edition)
     where
-      at : {n : Next} → Begun S edition n → n ≡ ends outcome → Decided most outcome
-      at (answered b f) e = subst (λ (o : Outcome). Decided most o) (ends-once e) (decidedNonempty {c = beginning} (omega arith))
-      at (finalAtOnce b f) e = subst (λ (o : Outcome). Decided most o) (ends-once e) decidedAtStart
+      at-once : {o : Outcome} → IsVerdict o → ends o beginning ≡ ends outcome left → Decided most outcome left
+      at-once v e = record { verdict = subst IsVerdict (ends-once e) v; in-time = omega (arith, ap (λ (n : Next). comesTo n .steps) e) }
+
+      at : {n : Next} → Begun S edition n → n ≡ ends outcome left → Decided most outcome left
+      at (answered b f) e = at-once tt e
+      at (finalAtOnce b f) e = at-once tt e
       at (started b) e = absurd (works-or-ended e)
 
 module _ (S : System) (lawful : Lawful S) (rooms : Rooms) (edition : ℕ) where
@@ -213,12 +218,14 @@ module _ (S : System) (lawful : Lawful S) (rooms : Rooms) (edition : ℕ) where
         start = λ second t. absurd (f second);
         counted = beginning-counted rooms;
         stamped = beginning-stamped;
+        halts = refl;
       }
       at (finalAtOnce e second) = record {
-        right = (second, holds (start-accepts S ∙ e));
+        right = (second, holds (start-accepts S ∙ e), refl);
         start = λ second t. refl;
         counted = beginning-counted rooms;
         stamped = beginning-stamped;
+        halts = refl;
       }
       at (started e) = let clear = clear-finals S e in record {
         clear = clear;
@@ -241,13 +248,14 @@ module _ (S : System) (lawful : Lawful S) (rooms : Rooms) (edition : ℕ) where
         stamped = advanced-stamped a (w .stamped);
         bounded = advanced-bounded lawful sound (w .holds) (w .bounded) a;
       }
-      at (ends outcome) a = record {
+      at (ends outcome left) a = record {
         right = advanced-right S lawful (w .clear) edition sound (w .holds) a;
         start = λ second t. absurd (clear-start S (w .clear) t);
         counted = advanced-counted a (w .counted);
         stamped = advanced-stamped a (w .stamped);
+        halts = advanced-halts a;
       }
-  call-sure given (ends outcome) sound d = d
+  call-sure given (ends outcome left) sound d = d
 
   -- after a chain of calls
   chain-sure : (given : List Given) → AllSound S given → Sure S rooms edition (chain S rooms (begin S edition) given)
@@ -263,12 +271,13 @@ module _ (S : System) (lawful : Lawful S) (rooms : Rooms) (edition : ℕ) where
       let w = chain-working given sound e in
       omega (arith, working-steps S rooms edition given e, working-few lawful (w .holds) (w .bounded))
 
-  pub chain-done : {outcome : Outcome} (given : List Given) → AllSound S given → chain S rooms (begin S edition) given ≡ ends outcome
-      → Done S rooms edition outcome
+  pub chain-done : {outcome : Outcome} {left : Configuration} (given : List Given) → AllSound S given
+      → chain S rooms (begin S edition) given ≡ ends outcome left → Done S rooms edition outcome left
   chain-done given sound e = subst (Sure S rooms edition) e (chain-sure given sound)
 
   -- where a call ended a chain, it worked before
-  pub ended-working : {given : List Given} {outcome : Outcome} → AllSound S given → (by : EndingCall S rooms (begin S edition) given outcome)
+  pub ended-working : {given : List Given} {outcome : Outcome} {left : Configuration} → AllSound S given
+      → (by : EndingCall S rooms (begin S edition) given outcome left)
       → Working S rooms (by .at)
   ended-working sound by =
       chain-working (by .before)
@@ -276,12 +285,13 @@ module _ (S : System) (lawful : Lawful S) (rooms : Rooms) (edition : ℕ) where
       (by .reached)
 
   -- a chain that works no more ended at its start, or by the call that found the machine so: without a verdict, lacking something
-  pub chain-ended : {outcome : Outcome} (given : List Given) → AllSound S given → chain S rooms (begin S edition) given ≡ ends outcome
-      → (begin S edition ≡ ends outcome) ⊎ EndedBy S rooms edition given outcome
-  chain-ended {outcome} given sound e = at (chain-ended-by S rooms (begin S edition) given e)
+  pub chain-ended : {outcome : Outcome} {left : Configuration} (given : List Given) → AllSound S given
+      → chain S rooms (begin S edition) given ≡ ends outcome left
+      → (begin S edition ≡ ends outcome left) ⊎ EndedBy S rooms edition given outcome left
+  chain-ended {outcome} {left} given sound e = at (chain-ended-by S rooms (begin S edition) given e)
     where
-      at : (begin S edition ≡ ends outcome) ⊎ EndingCall S rooms (begin S edition) given outcome
-          → (begin S edition ≡ ends outcome) ⊎ EndedBy S rooms edition given outcome
+      at : (begin S edition ≡ ends outcome left) ⊎ EndingCall S rooms (begin S edition) given outcome left
+          → (begin S edition ≡ ends outcome left) ⊎ EndedBy S rooms edition given outcome left
       at (inl q) = inl q
       at (inr by) = inr (record {
         call = by;
@@ -290,12 +300,13 @@ module _ (S : System) (lawful : Lawful S) (rooms : Rooms) (edition : ℕ) where
       })
 
   -- with 2^n places in either room and no allowance under 4^(n+1), a chain that works no more has a verdict, after at most 4^(n+1) steps
-  pub chain-decided : 2 ^ S .states ≤ rooms .blockers → 2 ^ S .states ≤ rooms .word → {outcome : Outcome} (given : List Given) → AllSound S given
-      → Each (λ g. 4 ^ suc (S .states) ≤ g .allowance) given → chain S rooms (begin S edition) given ≡ ends outcome
-      → Decided (4 ^ suc (S .states)) outcome
-  chain-decided places levels {outcome} given sound enough e = at (chain-ended-by S rooms (begin S edition) given e)
+  pub chain-decided : 2 ^ S .states ≤ rooms .blockers → 2 ^ S .states ≤ rooms .word → {outcome : Outcome} {left : Configuration} (given : List Given)
+      → AllSound S given → Each (λ g. 4 ^ suc (S .states) ≤ g .allowance) given → chain S rooms (begin S edition) given ≡ ends outcome left
+      → Decided (4 ^ suc (S .states)) outcome left
+  chain-decided places levels {outcome} {left} given sound enough e = at (chain-ended-by S rooms (begin S edition) given e)
     where
-      at : (begin S edition ≡ ends outcome) ⊎ EndingCall S rooms (begin S edition) given outcome → Decided (4 ^ suc (S .states)) outcome
+      at : (begin S edition ≡ ends outcome left) ⊎ EndingCall S rooms (begin S edition) given outcome left
+          → Decided (4 ^ suc (S .states)) outcome left
       at (inl q) = begin-decided S rooms (4 ^ suc (S .states)) edition q
       at (inr by) =
           let w = ended-working sound by in
@@ -305,7 +316,7 @@ module _ (S : System) (lawful : Lawful S) (rooms : Rooms) (edition : ℕ) where
 -- what came in smaller rooms with smaller allowances comes in larger ones, unless the smaller ones lack steps or a place
 abbrev Stays : Next → Next → Type 0
 Stays (goesOn d) larger = larger ≡ goesOn d
-Stays (ends outcome) larger = IsVerdict outcome → larger ≡ ends outcome
+Stays (ends outcome left) larger = IsVerdict outcome → larger ≡ ends outcome left
 
 module _ (S : System) (rooms rooms′ : Rooms) (more-blockers : rooms .blockers ≤ rooms′ .blockers) (more-word : rooms .word ≤ rooms′ .word) where
   -- larger rooms lack no place that smaller ones have
@@ -334,21 +345,21 @@ module _ (S : System) (rooms rooms′ : Rooms) (more-blockers : rooms .blockers 
   call-stays given more l (goesOn c) larger st =
       subst (λ (m : Next). Stays (advance S rooms given (goesOn c)) (advance S rooms′ (raise more given) m)) (sym st)
       (advanced-stays given more l c (advanced S rooms given c))
-  call-stays given more l (ends outcome) larger st = λ v. ap (advance S rooms′ (raise more given)) (st v)
+  call-stays given more l (ends outcome left) larger st = λ v. ap (advance S rooms′ (raise more given)) (st v)
 
-  chain-stays : {given given′ : List Given} {outcome : Outcome} → Raised given given′ → IsVerdict outcome → (n larger : Next) → Stays n larger
-      → chain S rooms n given ≡ ends outcome → chain S rooms′ larger given′ ≡ ends outcome
+  chain-stays : {given given′ : List Given} {outcome : Outcome} {left : Configuration} → Raised given given′ → IsVerdict outcome → (n larger : Next)
+      → Stays n larger → chain S rooms n given ≡ ends outcome left → chain S rooms′ larger given′ ≡ ends outcome left
   unfolding chain
   chain-stays (raisedNone {more = more}) v n larger st e =
-      ap (λ (m : Next). chain S rooms′ m more) (subst (λ (m : Next). Stays m larger) e st v) ∙ ended-stays S rooms′ _ more
+      ap (λ (m : Next). chain S rooms′ m more) (subst (λ (m : Next). Stays m larger) e st v) ∙ ended-stays S rooms′ _ _ more
   chain-stays (raisedOne {given = given} {allowance = more} l raised) v n larger st e =
       chain-stays raised v (advance S rooms given n) (advance S rooms′ (raise more given) larger) (call-stays given more l n larger st) e
 
   stays-same : (n : Next) → Stays n n
   stays-same (goesOn c) = refl
-  stays-same (ends outcome) = λ v. refl
+  stays-same (ends outcome left) = λ v. refl
 
   -- larger rooms and larger allowances do not change a verdict
-  pub chain-verdict-stays : (edition : ℕ) {given given′ : List Given} {outcome : Outcome} → Raised given given′ → IsVerdict outcome
-      → chain S rooms (begin S edition) given ≡ ends outcome → chain S rooms′ (begin S edition) given′ ≡ ends outcome
+  pub chain-verdict-stays : (edition : ℕ) {given given′ : List Given} {outcome : Outcome} {left : Configuration} → Raised given given′ → IsVerdict outcome
+      → chain S rooms (begin S edition) given ≡ ends outcome left → chain S rooms′ (begin S edition) given′ ≡ ends outcome left
   chain-verdict-stays edition raised v e = chain-stays raised v (begin S edition) (begin S edition) (stays-same (begin S edition)) e

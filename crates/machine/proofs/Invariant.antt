@@ -21,7 +21,7 @@ use Rattle.machine.specs.Machine.{Blocker, Pending, blocked, leaves, ris
 use Rattle.machine.proofs.Language.{takenBack, Word, Lawful}
 use Rattle.machine.proofs.Tables.{Covered, Blocked, byInitial, blocked-means, means-blocked, covered-lower, covered-blocked, blocked-lower}
 use Rattle.machine.proofs.Tables.{Stands, blocked-stays-blocked}
-use Rattle.machine.proofs.Rising.{Kept, Grown, Enters, placed, placed-new, placed-from, entered-grown, levels-grown}
+use Rattle.machine.proofs.Rising.{Kept, Grown, Enters, putAmong, put-putAmong-new, put-putAmong-from, entered-grown, levels-grown}
 use Rattle.machine.proofs.Passing.{Passes, Held, qualified-free, qualified-above}
 
 -- where the case before `rest` comes from: it is a final case, or the backward set by its symbol of the first case of `rest`
@@ -209,24 +209,24 @@ module _ {S : System} {table : List Blocker} {N : ℕ} {p : Pending} {rest : Lis
       higher b m t (no h) = omega arith
 
   -- the table with it has grown
-  pub block-grown : Grown S (suc N) table (placed table (entering N rest mask entered) [])
+  pub block-grown : Grown S (suc N) table (putAmong table (entering N rest mask entered) [])
   block-grown = entered-grown (inv .kept) block-enters
 
   -- what was pending is blocked now
-  pub block-covers : Covered (placed table (entering N rest mask entered) []) (suc (N - suc (length rest))) (p .case)
+  pub block-covers : Covered (putAmong table (entering N rest mask entered) []) (suc (N - suc (length rest))) (p .case)
   block-covers = record {
     blocker = entering N rest mask entered;
-    listed = placed-new table (entering N rest mask entered) [];
+    listed = put-putAmong-new table (entering N rest mask entered) [];
     high = omega arith;
     inside = passing .contains;
   }
 
   -- the cases above it go on waiting
-  block-chain : Chain S (placed table (entering N rest mask entered) []) N rest
+  block-chain : Chain S (putAmong table (entering N rest mask entered) []) N rest
   block-chain = chain-stays from (omega (arith, chain-lowest (inv .chain) .high)) (chain-rest (inv .chain))
     where
-      from : Each (λ b. b ∈ table ⊎ (b .level ≤ suc (N - suc (length rest)))) (placed table (entering N rest mask entered) [])
-      from b m = at (placed-from table (entering N rest mask entered) [] m)
+      from : Each (λ b. b ∈ table ⊎ (b .level ≤ suc (N - suc (length rest)))) (putAmong table (entering N rest mask entered) [])
+      from b m = at (put-putAmong-from table (entering N rest mask entered) [] m)
         where
           at : (b ≡ entering N rest mask entered) ⊎ (b ∈ (table ++ []) × T (neg (leaves (entering N rest mask entered) b)))
               → b ∈ table ⊎ (b .level ≤ suc (N - suc (length rest)))
@@ -321,12 +321,12 @@ module _ {S : System} (lawful : Lawful S) (finalsClear : FinalsClear S) where
 
     -- after a block
     pub block-holds : {mask : ℕ} (entered : ℕ) → Passes S table (N - suc (length rest)) (p .case) mask
-        → Invariant S (placed table (entering N rest mask entered) []) N (pendingAfter (S .initial) (S .finals) (placed table (entering N rest mask entered) []) N rest)
+        → Invariant S (putAmong table (entering N rest mask entered) []) N (pendingAfter (S .initial) (S .finals) (putAmong table (entering N rest mask entered) []) N rest)
     block-holds {mask} entered passing =
         let grown = block-grown inv entered passing in
         record {
           kept = grown .kept;
           chain = after-chain rest (omega (arith, chain-lowest (inv .chain) .high)) (grown .kept .stands) (block-chain inv entered passing);
-          done = after-done (placed table (entering N rest mask entered) []) N rest;
+          done = after-done (putAmong table (entering N rest mask entered) []) N rest;
           before = λ j l F m. blocked-stays-blocked (grown .grows) (inv .before j l F m);
         }

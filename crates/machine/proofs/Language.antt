@@ -52,20 +52,19 @@ pub record Shortest (S : System) (word : List ℕ) : Type 0 where
   pub accepted : T (accepts S word)
   pub least : NoneShorter S (length word)
 
--- the run ended with a verdict, after at most `most` steps
-pub data Decided (most : ℕ) : Outcome → Type 0 where
-  decidedNonempty : {word : List ℕ} {c : Configuration} → c .steps ≤ most → Decided most (nonempty word c)
-  decidedEmpty : {c : Configuration} → c .steps ≤ most → Decided most (empty c)
-  decidedAtStart : Decided most startsFinal
-
 -- the outcome is a verdict
 abbrev pub IsVerdict : Outcome → Type 0
-IsVerdict (nonempty word c) = Unit {0}
-IsVerdict (empty c) = Unit {0}
-IsVerdict (stepsLack c) = ⊥
-IsVerdict (blockersLack c) = ⊥
-IsVerdict (wordLacks c) = ⊥
+IsVerdict (nonempty word) = Unit {0}
+IsVerdict empty = Unit {0}
+IsVerdict stepsLack = ⊥
+IsVerdict blockersLack = ⊥
+IsVerdict wordLacks = ⊥
 IsVerdict startsFinal = Unit {0}
+
+-- the run ended with a verdict, after at most `most` steps
+pub record Decided (most : ℕ) (outcome : Outcome) (left : Configuration) : Type 0 where
+  pub verdict : IsVerdict outcome
+  pub in-time : left .steps ≤ most
 
 -- in edition 2 a start that is final is answered as such
 abbrev pub AnswersStart : System → ℕ → Outcome → Type 0
@@ -78,6 +77,6 @@ pub record SameLanguage (S S′ : System) : Type 0 where
 
 -- both found words, equally long, or both found that there is none, or that the start is final
 pub data Agree : Outcome → Outcome → Type 0 where
-  both-nonempty : {word word′ : List ℕ} {c c′ : Configuration} → length word ≡ length word′ → Agree (nonempty word c) (nonempty word′ c′)
-  both-empty : {c c′ : Configuration} → Agree (empty c) (empty c′)
+  both-nonempty : {word word′ : List ℕ} → length word ≡ length word′ → Agree (nonempty word) (nonempty word′)
+  both-empty : Agree empty empty
   both-at-start : Agree startsFinal startsFinal

@@ -27,6 +27,8 @@ use Rattle.machine.specs.Lent.{
   EvenRoom,
   blockerAt,
   blockersFrom,
+  WordRoom,
+  wordRoomOf,
   pendingFirst,
   column,
   columnBack,
@@ -38,6 +40,8 @@ use Rattle.machine.specs.Lent.{
   placed,
   eachTable,
   withTable,
+  withPending,
+  withWord,
 }
 use Rattle.machine.specs.Promises.{Changed}
 
@@ -191,14 +195,14 @@ column-back-length field [] = refl
 column-back-length field (entry ∷ entries) = length-append (columnBack field entries) (field entry ∷ []) ∙ omega (arith, column-back-length field entries)
 
 -- as many pending cases are read as are asked for
-pub pending-length : (cases symbols : List ℕ) (count : ℕ) → length (pendingFirst cases symbols count) ≡ count
+pub pending-length : (room : WordRoom) (count : ℕ) → length (pendingFirst room count) ≡ count
 unfolding pendingFirst
-pending-length cases symbols zero = refl
-pending-length cases symbols (suc count) = ap suc (pending-length cases symbols count)
+pending-length room zero = refl
+pending-length room (suc count) = ap suc (pending-length room count)
 
 -- pending cases at the front of two tables are read back
 pub read-back-pending : (pending : List Pending) (cases symbols : List ℕ)
-    → pendingFirst (columnBack caseOf pending ++ cases) (columnBack symbolOf pending ++ symbols) (length pending) ≡ pending
+    → pendingFirst (wordRoomOf (columnBack caseOf pending ++ cases) (columnBack symbolOf pending ++ symbols)) (length pending) ≡ pending
 unfolding pendingFirst columnBack
 read-back-pending [] cases symbols = refl
 read-back-pending (p ∷ pending) cases symbols =
@@ -210,30 +214,30 @@ read-back-pending (p ∷ pending) cases symbols =
     (ap (λ (rest : List Pending). p ∷ rest) (read-back-pending pending (p .case ∷ cases) (p .symbol ∷ symbols))))
 
 -- so they are where they stand in place of others
-pub read-back-placed : (pending : List Pending) (old older : ℕ) (cases symbols : List ℕ)
-    → pendingFirst (placed old (columnBack caseOf pending) cases) (placed older (columnBack symbolOf pending) symbols) (length pending) ≡ pending
-unfolding placed
-read-back-placed pending old older cases symbols =
+pub read-back-placed : (pending : List Pending) (old : ℕ) (room : WordRoom) → pendingFirst (withPending old pending room) (length pending) ≡ pending
+unfolding withPending placed
+read-back-placed pending old room =
+    let cases = columnBack caseOf pending in
+    let symbols = columnBack symbolOf pending in
     rw (
-      append-assoc (columnBack caseOf pending) (replicate (old - length (columnBack caseOf pending)) 0) (drop (max old (length (columnBack caseOf pending))) cases),
-      append-assoc (columnBack symbolOf pending) (replicate (older - length (columnBack symbolOf pending)) 0)
-          (drop (max older (length (columnBack symbolOf pending))) symbols),
+      append-assoc cases (replicate (old - length cases) 0) (drop (max old (length cases)) (room .cases)),
+      append-assoc symbols (replicate (old - length symbols) 0) (drop (max old (length symbols)) (room .symbols)),
     )
-    (read-back-pending pending (replicate (old - length (columnBack caseOf pending)) 0 ++ drop (max old (length (columnBack caseOf pending))) cases)
-    (replicate (older - length (columnBack symbolOf pending)) 0 ++ drop (max older (length (columnBack symbolOf pending))) symbols))
+    (read-back-pending pending _ _)
 
 -- a column of the pending cases is the front of its table
-pub cases-front : (cases symbols : List ℕ) (count : ℕ) → count ≤ length cases → columnBack caseOf (pendingFirst cases symbols count) ≡ take count cases
+pub cases-front : (room : WordRoom) (count : ℕ) → count ≤ length (room .cases) → columnBack caseOf (pendingFirst room count) ≡ take count (room .cases)
 unfolding pendingFirst columnBack
-cases-front cases symbols zero h = refl
-cases-front cases symbols (suc count) h =
-    ap (λ (front : List ℕ). front ++ getD cases count 0 ∷ []) (cases-front cases symbols count (omega arith)) ∙ sym (take-suc cases count 0 h)
+cases-front room zero h = refl
+cases-front room (suc count) h =
+    ap (λ (front : List ℕ). front ++ getD (room .cases) count 0 ∷ []) (cases-front room count (omega arith)) ∙ sym (take-suc (room .cases) count 0 h)
 
-pub symbols-front : (cases symbols : List ℕ) (count : ℕ) → count ≤ length symbols → columnBack symbolOf (pendingFirst cases symbols count) ≡ take count symbols
+pub symbols-front : (room : WordRoom) (count : ℕ) → count ≤ length (room .symbols)
+    → columnBack symbolOf (pendingFirst room count) ≡ take count (room .symbols)
 unfolding pendingFirst columnBack
-symbols-front cases symbols zero h = refl
-symbols-front cases symbols (suc count) h =
-    ap (λ (front : List ℕ). front ++ getD symbols count 0 ∷ []) (symbols-front cases symbols count (omega arith)) ∙ sym (take-suc symbols count 0 h)
+symbols-front room zero h = refl
+symbols-front room (suc count) h =
+    ap (λ (front : List ℕ). front ++ getD (room .symbols) count 0 ∷ []) (symbols-front room count (omega arith)) ∙ sym (take-suc (room .symbols) count 0 h)
 
 -- a table's own front in its place changes nothing
 pub placed-front : (count : ℕ) (before : List ℕ) → count ≤ length before → placed count (take count before) before ≡ before
@@ -245,11 +249,11 @@ placed-front count before h =
     rw (l, none, most, append-nil) (take-append-drop count before)
 
 -- nor do the pending cases that were read from there
-pub placed-cases : (cases symbols : List ℕ) (count : ℕ) → count ≤ length cases → placed count (columnBack caseOf (pendingFirst cases symbols count)) cases ≡ cases
-placed-cases cases symbols count h = rw (cases-front cases symbols count h) (placed-front count cases h)
-
-pub placed-symbols : (cases symbols : List ℕ) (count : ℕ) → count ≤ length symbols → placed count (columnBack symbolOf (pendingFirst cases symbols count)) symbols ≡ symbols
-placed-symbols cases symbols count h = rw (symbols-front cases symbols count h) (placed-front count symbols h)
+pub own-pending : (room : WordRoom) (count : ℕ) → count ≤ length (room .cases) → count ≤ length (room .symbols)
+    → withPending count (pendingFirst room count) room ≡ room
+unfolding withPending
+own-pending room count c s =
+    rw (cases-front room count c, symbols-front room count s, placed-front count (room .cases) c, placed-front count (room .symbols) s)
 
 -- without the first n entries: of two lists one after the other, and of 0 so many times
 drop-append : (n : ℕ) (front rest : List ℕ) → drop n (front ++ rest) ≡ drop n front ++ drop (n - length front) rest
@@ -317,6 +321,22 @@ pub placed-again : (old : ℕ) (first second before : List ℕ) → length first
 placed-again old first second before h =
     let most : max old (length first) ≡ old = omega arith in
     placed-placed old (length first) first second before (omega arith) ∙ ap (λ (n : ℕ). placed n second before) most
+
+-- so it is of the word room, whether cases become pending or a word stands there
+module _ (old size : ℕ) (first second : List Pending) (word : List ℕ) (room : WordRoom) (e : length first ≡ size) (l : size ≤ old) where
+  again : (field : Pending → ℕ) (new before : List ℕ) → placed size new (placed old (columnBack field first) before) ≡ placed old new before
+  again field new before =
+      let long = column-back-length field first ∙ e in
+      ap (λ (k : ℕ). placed k new (placed old (columnBack field first) before)) (sym long)
+      ∙ placed-again old (columnBack field first) new before (omega (arith, long))
+
+  pub pending-again : withPending size second (withPending old first room) ≡ withPending old second room
+  unfolding withPending
+  pending-again = rw (again caseOf (columnBack caseOf second) (room .cases), again symbolOf (columnBack symbolOf second) (room .symbols))
+
+  pub word-again : withWord size word (withPending old first room) ≡ withWord old word room
+  unfolding withWord withPending
+  word-again = rw (again caseOf [] (room .cases), again symbolOf word (room .symbols))
 
 -- what stands at a place is the first of what is left from there
 first-left : (i : ℕ) (l : List ℕ) → getD (drop i l) 0 0 ≡ getD l i 0

@@ -17,22 +17,22 @@ use Rattle.automata.proofs.ValidImage.{valid-kept, case-narrow, valid-proper}
 use Rattle.automata.proofs.PickedRuns.{picked-run, all-picked, events-known}
 use Rattle.automata.proofs.AcceptedWords.{accepted-means}
 use Rattle.writing.specs.Decimal.{digits}
-use Rattle.writing.specs.Rooms.{Answer, noBytes, allBytes, placed}
+use Rattle.writing.specs.Rooms.{Answer, noBytes, allBytes, fittedBytes}
 use Rattle.writing.proofs.Decimals.{few-digits, twenty-digits}
-use Rattle.writing.proofs.Placing.{placed-whole, placed-short}
+use Rattle.writing.proofs.Placing.{bytes-whole, bytes-short}
 use Rattle.machine.specs.Print.{startLine, eventLine, eventLines, printOf, printRun}
 use Rattle.machine.specs.Promises.{PrintPromises}
 use Rattle.machine.proofs.WordTests.{says-yes}
 
--- the word test's number where that is not 1, else what is placed
+-- the word test's number where that is not 1, else the bytes
 module _ (image word room : List ℕ) where
   pub not-printed : (wordTest image word ≡ 1 → ⊥) → printRun image word room ≡ noBytes (wordTest image word) room
   unfolding printRun
-  not-printed f = choose-false (placed 1 (printOf (automatonOf image) word) room) (noBytes (wordTest image word) room) (is-false _ (λ t. f (eqb→eq _ _ t)))
+  not-printed f = choose-false (fittedBytes 1 (printOf (automatonOf image) word) room) (noBytes (wordTest image word) room) (is-false _ (λ t. f (eqb→eq _ _ t)))
 
-  pub is-printed : wordTest image word ≡ 1 → printRun image word room ≡ placed 1 (printOf (automatonOf image) word) room
+  pub is-printed : wordTest image word ≡ 1 → printRun image word room ≡ fittedBytes 1 (printOf (automatonOf image) word) room
   unfolding printRun
-  is-printed e = choose-true (placed 1 (printOf (automatonOf image) word) room) (noBytes (wordTest image word) room) (ap (λ (n : ℕ). eqb n 1) e)
+  is-printed e = choose-true (fittedBytes 1 (printOf (automatonOf image) word) room) (noBytes (wordTest image word) room) (ap (λ (n : ℕ). eqb n 1) e)
 
 -- how long lines are: of a symbol below 100 and a case of 64 states at most 24 bytes, and the first at most 21
 start-short : (initial : ℕ) → initial < 2 ^ 64 → length (startLine initial) ≤ 21
@@ -104,11 +104,11 @@ unfolding allBytes
 prints-kept image word room =
     record {
       word-test-first = not-printed image word room;
-      too-short = λ e l. is-printed image word room e ∙ placed-short 1 _ room l;
-      success = λ e l. is-printed image word room e ∙ placed-whole 1 _ room l;
+      too-short = λ e l. is-printed image word room e ∙ bytes-short 1 _ room l;
+      success = λ e l. is-printed image word room e ∙ bytes-whole 1 _ room l;
       room-enough = λ e l.
           let yes = says-yes image word .0 e in
-          ap (λ (answer : Answer). answer .number) (is-printed image word room e ∙ placed-whole 1 _ room (omega (arith, print-length image word (yes .0) (yes .1))));
+          ap (λ (answer : Answer). answer .number) (is-printed image word room e ∙ bytes-whole 1 _ room (omega (arith, print-length image word (yes .0) (yes .1))));
       form-run = run-formed image word;
       all-pick = rows-picked image word;
     }

@@ -13,56 +13,50 @@ use Rattle.lists.specs.Lists.{keep}
 use Rattle.machine.specs.System.{System}
 use Rattle.machine.specs.Machine.{Blocker, Configuration, Given, Rooms, beginning, Next, goesOn, ends, comesTo, advance, chain, begin}
 use Rattle.machine.specs.Machine.{nonempty, startsFinal}
-use Rattle.machine.specs.Lent.{column, columnBack, caseOf, symbolOf, placed, withTable}
-use Rattle.machine.specs.Runs.{Lent, zeroed, Terms, systemOf, givenOf, roomsOf, numberOf, casesIn, symbolsIn, tablesAfter, resultOf, checkRun}
-use Rattle.machine.specs.Records.{Stage, configurationOf, pendingOf, recordOf, after, shown, workingStep, Called, stepOf, stepsFrom}
-use Rattle.machine.specs.Records.{unrefused, givenBy, resultFrom}
+use Rattle.machine.specs.Lent.{Lent, zeroed, column, placed, withTable}
+use Rattle.machine.specs.Runs.{Terms, Stage, systemOf, givenOf, roomsOf, endNumber, numberOf, recordOf, wordIn, wordLeft, tablesAfter, shown, checkRun}
+use Rattle.machine.specs.Records.{configurationOf, after, workingStep, Called, stepOf, stepsFrom, unrefused, givenBy}
 use Rattle.machine.specs.Promises.{Unbroken}
 use Rattle.machine.proofs.Chains.{Begun, answered, finalAtOnce, started, begin-begun}
-use Rattle.machine.proofs.LentTables.{column-length, column-back-length, placed-again, tables-same, read-back-table, read-back-placed}
-use Rattle.machine.proofs.Judging.{Even, number-low, tables-zero}
+use Rattle.machine.proofs.LentTables.{column-length, placed-again, pending-again, word-again, tables-same, read-back-table, read-back-placed}
+use Rattle.machine.proofs.Judging.{Even, number-low, ends-zero, works-zero}
 use Rattle.machine.proofs.AnyRecord.{SameLengths, Takes, takes-checked, room-changed, cases-changed}
 use Rattle.machine.proofs.AnyRecord.{Stepped, refused, finished, worked, stepped, stepped-refused, stepped-takes, unworked-left}
-
--- its record and tables are a run's result
-pub shown-result : (lent : Lent) (n : Next) → resultFrom (shown lent n) ≡ resultOf lent n
-unfolding recordOf resultOf
-shown-result lent n = refl
 
 -- a configuration has its place in the lent tables
 record Fitting (lent : Lent) (c : Configuration) : Type 0 where
   table : length (c .table) ≤ length (lent .room .masks)
-  pending : length (c .pending) ≤ length (lent .cases)
+  pending : length (c .pending) ≤ length (lent .word .cases)
 
 -- "begin .. makes the start": all places 0 are what it shows, since it has no blocker, nothing pending and no symbol of a word
 pub begin-shown : (S : System) (lent : Lent) → Even lent → (edition : ℕ) → zeroed lent ≡ shown lent (begin S edition) .tables
-unfolding casesIn symbolsIn columnBack beginning
+unfolding wordIn beginning
 begin-shown S lent even edition = at (begin-begun S edition)
   where
     at : {n : Next} → Begun S edition n → zeroed lent ≡ shown lent n .tables
-    at (answered e f) = sym (tables-zero lent even (ends (nonempty [] beginning)) refl refl refl)
-    at (finalAtOnce e f) = sym (tables-zero lent even (ends startsFinal) refl refl refl)
-    at (started e) = sym (tables-zero lent even (goesOn beginning) refl refl refl)
+    at (answered e f) = sym (ends-zero lent even (nonempty []) beginning refl refl)
+    at (finalAtOnce e f) = sym (ends-zero lent even startsFinal beginning refl refl)
+    at (started e) = sym (works-zero lent even beginning refl refl)
 
 module _ (lent : Lent) (even : Even lent) (c : Configuration) (fit : Fitting lent c) where
   -- the rooms are as large as those that were lent
   rooms-shown : roomsOf (shown lent (goesOn c) .tables) ≡ roomsOf lent
-  unfolding casesIn
+  unfolding tablesAfter
   rooms-shown =
       let held = length (lent .room .masks) in
-      let waiting = length (lent .cases) in
+      let waiting = length (lent .word .cases) in
       rw (
         room-changed lent even held waiting (goesOn c) (omega arith) (fit .table) .masks .long,
-        cases-changed lent even held waiting (goesOn c) (column-back-length caseOf (c .pending)) (omega arith) (fit .pending) .long,
+        cases-changed (lent .word) (even .symbols) waiting (omega arith) (goesOn c) tt (fit .pending) .long,
       )
 
   -- what stands there is read back
   read-shown : configurationOf (shown lent (goesOn c)) ≡ c
-  unfolding recordOf pendingOf tablesAfter casesIn symbolsIn
+  unfolding recordOf tablesAfter wordLeft
   read-shown =
       rw (
         read-back-table (c .table) (length (lent .room .masks)) (lent .room),
-        read-back-placed (c .pending) (length (lent .cases)) (length (lent .cases)) (lent .cases) (lent .symbols),
+        read-back-placed (c .pending) (length (lent .word .cases)) (lent .word),
       )
 
   -- a change in the places in use of tables that were written before
@@ -81,16 +75,15 @@ module _ (lent : Lent) (even : Even lent) (c : Configuration) (fit : Fitting len
       (column-length field (c .table)) (fit .table))
 
   -- what the next configuration puts in the places in use is all that it shows
+  word-again-left : (n : Next) → wordLeft (length (c .pending)) n (wordLeft (length (lent .word .cases)) (goesOn c) (lent .word))
+      ≡ wordLeft (length (lent .word .cases)) n (lent .word)
+  unfolding wordLeft
+  word-again-left (goesOn d) = pending-again _ _ (c .pending) (d .pending) [] (lent .word) refl (fit .pending)
+  word-again-left (ends o d) = word-again _ _ (c .pending) [] (wordIn o) (lent .word) refl (fit .pending)
+
   after-shown : (n : Next) → after (shown lent (goesOn c)) n ≡ shown lent n
-  unfolding after recordOf pendingOf tablesAfter casesIn symbolsIn
-  after-shown n =
-      rw (
-        room-again (comesTo n .table),
-        again (length (c .pending)) (length (lent .cases)) (columnBack caseOf (c .pending)) (casesIn n) (lent .cases)
-            (column-back-length caseOf (c .pending)) (fit .pending),
-        again (length (c .pending)) (length (lent .cases)) (columnBack symbolOf (c .pending)) (symbolsIn n) (lent .symbols)
-            (column-back-length symbolOf (c .pending)) (fit .pending),
-      )
+  unfolding after recordOf tablesAfter
+  after-shown n = rw (room-again (comesTo n .table), word-again-left n)
 
   -- a step from there shows the machine's next configuration
   step-shown : (image : List ℕ) (given : Given)
@@ -103,7 +96,7 @@ module _ (lent : Lent) (even : Even lent) (c : Configuration) (fit : Fitting len
 
 -- what a begin shows, the first step takes
 pub begin-takes : (S : System) (lent : Lent) → Even lent → (edition : ℕ) → Takes lent (shown lent (begin S edition))
-unfolding recordOf pendingOf beginning numberOf
+unfolding recordOf beginning numberOf endNumber
 begin-takes S lent even edition =
     record {
       same = subst (SameLengths lent) (begin-shown S lent even edition) zeros;
@@ -128,7 +121,7 @@ module _ (image : List ℕ) (lent : Lent) (even : Even lent) where
   -- a step that is not refused shows what the machine comes to by one call more
   call-shown : (terms : Terms) → checkRun image lent terms ≡ 0 → (n : Next) → Takes lent (shown lent n)
       → stepOf image terms (shown lent n) .left ≡ shown lent (advance (systemOf image) (roomsOf lent) (givenOf image terms) n)
-  unfolding recordOf pendingOf numberOf advance
+  unfolding recordOf numberOf advance
   call-shown terms none (goesOn c) takes = by (stepped image terms (shown lent (goesOn c)))
     where
       fit : Fitting lent c
@@ -139,7 +132,7 @@ module _ (image : List ℕ) (lent : Lent) (even : Even lent) where
       by (refused f) = absurd (f (takes-checked image terms takes ∙ none))
       by (finished e f) = absurd (f refl)
       by (worked e six) = step-shown lent even c fit image (givenOf image terms)
-  call-shown terms none (ends o) takes = unworked-left image terms (shown lent (ends o)) (λ six. omega (arith, six, number-low o))
+  call-shown terms none (ends o c) takes = unworked-left image terms (shown lent (ends o c)) (λ six. omega (arith, six, number-low o))
 
   -- a refused one changes nothing
   refused-leaves : (terms : Terms) → (checkRun image lent terms ≡ 0 → ⊥) → (at : Stage) → Takes lent at → stepOf image terms at .left ≡ at

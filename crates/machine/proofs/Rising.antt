@@ -85,19 +85,19 @@ unfolding staying
 staying-length Y table = keep-length (λ blocker. neg (leaves Y blocker)) table
 
 -- Y in its place, with what stays for it before and after
-unfoldable pub placed : List Blocker → Blocker → List Blocker → List Blocker
-placed before Y after = staying Y before ++ Y ∷ staying Y after
+unfoldable pub putAmong : List Blocker → Blocker → List Blocker → List Blocker
+putAmong before Y after = staying Y before ++ Y ∷ staying Y after
 
 module _ (before : List Blocker) (Y : Blocker) (after : List Blocker) where
   -- Y is in the table
-  pub placed-new : Y ∈ placed before Y after
-  unfolding placed
-  placed-new = in-right (staying Y before) (here refl)
+  pub put-putAmong-new : Y ∈ putAmong before Y after
+  unfolding putAmong
+  put-putAmong-new = in-right (staying Y before) (here refl)
 
   -- as the walk along a table writes it
-  placed-joined : (staying Y before ++ Y ∷ []) ++ staying Y after ≡ placed before Y after
-  unfolding placed
-  placed-joined = append-snoc (staying Y before) Y (staying Y after)
+  put-putAmong-joined : (staying Y before ++ Y ∷ []) ++ staying Y after ≡ putAmong before Y after
+  unfolding putAmong
+  put-putAmong-joined = append-snoc (staying Y before) Y (staying Y after)
 
   -- what stays before and after is what stays of both
   staying-joined : staying Y (before ++ after) ≡ staying Y before ++ staying Y after
@@ -105,24 +105,24 @@ module _ (before : List Blocker) (Y : Blocker) (after : List Blocker) where
   staying-joined = keep-append (λ blocker. neg (leaves Y blocker)) before after
 
   -- whoever is in the table is Y or has stayed
-  pub placed-from : {b : Blocker} → b ∈ placed before Y after → (b ≡ Y) ⊎ (b ∈ (before ++ after) × T (neg (leaves Y b)))
-  unfolding placed
-  placed-from {b} m = at (in-beside Y (staying Y before) (staying Y after) m)
+  pub put-putAmong-from : {b : Blocker} → b ∈ putAmong before Y after → (b ≡ Y) ⊎ (b ∈ (before ++ after) × T (neg (leaves Y b)))
+  unfolding putAmong
+  put-putAmong-from {b} m = at (in-beside Y (staying Y before) (staying Y after) m)
     where
       at : (b ≡ Y) ⊎ b ∈ (staying Y before ++ staying Y after) → (b ≡ Y) ⊎ (b ∈ (before ++ after) × T (neg (leaves Y b)))
       at (inl e) = inl e
       at (inr k) = inr (staying-in Y (before ++ after) (rw staying-joined k))
 
   -- who does not leave is in the table
-  placed-stays : {b : Blocker} → b ∈ (before ++ after) → T (neg (leaves Y b)) → b ∈ placed before Y after
-  unfolding placed
-  placed-stays {b} m t = beside-in Y (staying Y before) (staying Y after) (rw staying-joined at (in-staying Y (before ++ after) m t))
+  put-putAmong-stays : {b : Blocker} → b ∈ (before ++ after) → T (neg (leaves Y b)) → b ∈ putAmong before Y after
+  unfolding putAmong
+  put-putAmong-stays {b} m t = beside-in Y (staying Y before) (staying Y after) (rw staying-joined at (in-staying Y (before ++ after) m t))
 
 -- a blocker that takes another's place makes no table longer
-placed-shorter : (before : List Blocker) (blocker : Blocker) (after : List Blocker)
-    → length (placed before (risen blocker) after) ≤ length (before ++ blocker ∷ after)
-unfolding placed
-placed-shorter before blocker after =
+put-putAmong-shorter : (before : List Blocker) (blocker : Blocker) (after : List Blocker)
+    → length (putAmong before (risen blocker) after) ≤ length (before ++ blocker ∷ after)
+unfolding putAmong
+put-putAmong-shorter before blocker after =
     simp length-append (omega (arith, staying-length (risen blocker) before, staying-length (risen blocker) after))
 
 -- Y may take its place between `before` and `after`: these hold blockers of the old table, the others leave for Y; Y stands as each blocker does;
@@ -142,24 +142,24 @@ pub record Enters (S : System) (top : ℕ) (old before : List Blocker) (Y : Bloc
 module _ {S : System} {top : ℕ} {old before : List Blocker} {Y : Blocker} {after : List Blocker} (kept : Kept S top old)
     (enters : Enters S top old before Y after) where
   -- the table with Y in it covers what it did: what leaves for Y is a subset of Y
-  entered-grows : Grows old (placed before Y after)
+  entered-grows : Grows old (putAmong before Y after)
   entered-grows b m = at (enters .others b m)
     where
-      among : b ∈ (before ++ after) → T (leaves Y b) ⊎ (T (leaves Y b) → ⊥) → Covered (placed before Y after) (b .level) (b .mask)
-      among k (inl t) = left-covered Y b (placed-new before Y after) t
-      among k (inr f) = record {
+      was-there : b ∈ (before ++ after) → T (leaves Y b) ⊎ (T (leaves Y b) → ⊥) → Covered (putAmong before Y after) (b .level) (b .mask)
+      was-there k (inl t) = left-covered Y b (put-putAmong-new before Y after) t
+      was-there k (inr f) = record {
         blocker = b;
-        listed = placed-stays before Y after k (fails-neg _ f);
+        listed = put-putAmong-stays before Y after k (fails-neg _ f);
         high = omega arith;
         inside = subset-reflexive (b .mask);
       }
 
-      at : b ∈ (before ++ after) ⊎ T (leaves Y b) → Covered (placed before Y after) (b .level) (b .mask)
-      at (inl k) = among k (decide (leaves Y b))
-      at (inr t) = left-covered Y b (placed-new before Y after) t
+      at : b ∈ (before ++ after) ⊎ T (leaves Y b) → Covered (putAmong before Y after) (b .level) (b .mask)
+      at (inl k) = was-there k (decide (leaves Y b))
+      at (inr t) = left-covered Y b (put-putAmong-new before Y after) t
 
   -- Y stands in the new table, where it blocks those of its backward sets that are its subsets
-  new-stands : Stands S top (placed before Y after) Y
+  new-stands : Stands S top (putAmong before Y after) Y
   new-stands = record {
     positive = enters .positive;
     low = enters .low;
@@ -169,18 +169,18 @@ module _ {S : System} {top : ℕ} {old before : List Blocker} {Y : Blocker} {aft
   }
     where
       own : (s j : ℕ) → j < Y .level → Blocked S old j (S .backward s (Y .mask)) ⊎ T (subset (S .backward s (Y .mask)) (Y .mask))
-          → Blocked S (placed before Y after) j (S .backward s (Y .mask))
+          → Blocked S (putAmong before Y after) j (S .backward s (Y .mask))
       own s j k (inl b) = blocked-stays-blocked entered-grows b
       own s zero k (inr t) = byInitial (λ u. enters .clear (subset-transitive (S .initial) (S .backward s (Y .mask)) (Y .mask) u t))
       own s (suc j) k (inr t) =
           let high : suc j ≤ Y .level = omega arith in
-          byBlocker (record { blocker = Y; listed = placed-new before Y after; high = high; inside = t })
+          byBlocker (record { blocker = Y; listed = put-putAmong-new before Y after; high = high; inside = t })
 
   -- each blocker stands in the new table
-  entered-stands : Each (Stands S top (placed before Y after)) (placed before Y after)
-  entered-stands b m = at (placed-from before Y after m)
+  entered-stands : Each (Stands S top (putAmong before Y after)) (putAmong before Y after)
+  entered-stands b m = at (put-putAmong-from before Y after m)
     where
-      at : (b ≡ Y) ⊎ (b ∈ (before ++ after) × T (neg (leaves Y b))) → Stands S top (placed before Y after) b
+      at : (b ≡ Y) ⊎ (b ∈ (before ++ after) × T (neg (leaves Y b))) → Stands S top (putAmong before Y after) b
       at (inl e) = rw e new-stands
       at (inr r) = stays-standing entered-grows (kept .stands b (enters .rest b (r .0)))
 
@@ -189,8 +189,8 @@ module _ {S : System} {top : ℕ} {old before : List Blocker} {Y : Blocker} {aft
   apart-from-new b m t = record { forth = stayed-higher Y b t; back = enters .higher b m }
 
   -- the blockers of the new table are apart
-  entered-apart : Pairwise Apart (placed before Y after)
-  unfolding placed
+  entered-apart : Pairwise Apart (putAmong before Y after)
+  unfolding putAmong
   entered-apart =
       pairs-joined
       (staying-apart Y (pairs-left before after (enters .apart)))
@@ -205,7 +205,7 @@ module _ {S : System} {top : ℕ} {old before : List Blocker} {Y : Blocker} {aft
       across a b r (inr k) = pairs-across before after (enters .apart) a b (r .0) (staying-in Y after k .0)
 
   -- a blocker enters
-  pub entered-grown : Grown S top old (placed before Y after)
+  pub entered-grown : Grown S top old (putAmong before Y after)
   entered-grown = record { kept = record { stands = entered-stands; apart = entered-apart }; grows = entered-grows }
 
 -- "a blocker of level exactly j all of whose backward sets are blocked at j rises to j+1"
@@ -260,13 +260,13 @@ module _ {S : System} {top : ℕ} (before : List Blocker) (blocker : Blocker) (a
         at b (inr k) = inl k
 
     -- what a rise makes of the table
-    rise-grown : Grown S top (before ++ blocker ∷ after) (placed before (risen blocker) after)
+    rise-grown : Grown S top (before ++ blocker ∷ after) (putAmong before (risen blocker) after)
     rise-grown = entered-grown kept rise-enters
 
 -- What holds of a table goes on holding of it while blockers rise, if it does for each blocker that rises at level j.
 abbrev RiseKeeps : System → (List Blocker → Type 0) → ℕ → Type 0
 RiseKeeps S P j = (before : List Blocker) (blocker : Blocker) (after : List Blocker) → T (rises S (before ++ blocker ∷ after) j blocker)
-    → P (before ++ blocker ∷ after) → P (placed before (risen blocker) after)
+    → P (before ++ blocker ∷ after) → P (putAmong before (risen blocker) after)
 
 module _ (S : System) (P : List Blocker → Type 0) where
   -- along the table at level j
@@ -280,7 +280,7 @@ module _ (S : System) (P : List Blocker → Type 0) where
       at : ((u v : List Blocker) → P (u ++ v) → P (riseAlong S turns j u v)) → (t : Bool) → rises S (passed ++ b ∷ ahead) j b ≡ t
           → P (riseAlong S (suc turns) j passed (b ∷ ahead))
       at rec true q =
-          let seam = placed-joined passed (risen b) ahead in
+          let seam = put-putAmong-joined passed (risen b) ahead in
           rw (q, riseAlong) (rec (staying (risen b) passed ++ risen b ∷ []) (staying (risen b) ahead) (rw seam (keeps passed b ahead (holds q) h)))
       at rec false q = rw (q, riseAlong) (rec (passed ++ b ∷ []) ahead (rw append-snoc h))
 
@@ -295,7 +295,7 @@ module _ (S : System) (P : List Blocker → Type 0) where
 -- rising makes no table longer
 pub levels-shorter : (S : System) (count j : ℕ) (table : List Blocker) → length (riseLevels S count j table) ≤ length table
 levels-shorter S count j table =
-    levels-keep S (λ t. length t ≤ length table) count j (λ i l before b after t h. omega (arith, placed-shorter before b after)) table (omega arith)
+    levels-keep S (λ t. length t ≤ length table) count j (λ i l before b after t h. omega (arith, put-putAmong-shorter before b after)) table (omega arith)
 
 -- what rising at the `count` levels from j on makes of a table
 pub levels-grown : {S : System} {top : ℕ} (count j : ℕ) → count + j ≤ top → {table : List Blocker} → Kept S top table

@@ -18,17 +18,17 @@ use Rattle.automata.specs.Acceptance.{Accepted}
 use Rattle.automata.proofs.Checks.{check-number}
 use Rattle.automata.proofs.ValidImage.{check-fails}
 use Rattle.machine.specs.Machine.{Pending, Configuration, Given, Rooms, blocks, step, passes, Next, ends, chain, begin, callsOf, machine}
-use Rattle.machine.specs.Runs.{Lent, Terms, Result, systemOf, roomsOf, refused, resultOf, oddRooms, oversize}
-use Rattle.machine.specs.Runs.{unknownEdition, unknownWay}
-use Rattle.machine.specs.Runs.{checkTerms, checkRun, givenOf, endOf, runWith, runOf}
+use Rattle.machine.specs.Lent.{Lent}
+use Rattle.machine.specs.Runs.{Terms, Stage, systemOf, roomsOf, recordOf, shown, alone, oddRooms, oversize, unknownEdition, unknownWay}
+use Rattle.machine.specs.Runs.{checkTerms, checkRun, givenOf, runWith, runOf}
 use Rattle.machine.specs.Meaning.{EnteredInOrder, WorksIn}
-use Rattle.machine.specs.Promises.{Refused, Rules, RunEnded, inEdition, byWay, Decides, RunPromises}
+use Rattle.machine.specs.Promises.{Rules, RunEnded, inEdition, byWay, Decides, RunPromises}
 use Rattle.machine.proofs.Language.{Sound}
 use Rattle.machine.proofs.Hitting.{growth-sound}
 use Rattle.machine.proofs.Chains.{Working, AllSound, Ended, each-same, chain-working, chain-within, chain-ends, begin-alike}
 use Rattle.machine.proofs.Unpending.{grown-passes, block-leaves}
 use Rattle.machine.proofs.Images.{image-lawful, accepted-by-runs}
-use Rattle.machine.proofs.Judging.{Even, is-alone, ended-rules, ended-how, ended-decides}
+use Rattle.machine.proofs.Judging.{Even, ended-rules, ended-how, ended-decides}
 
 -- what holds of what each step is given by its terms
 pub given-each : (image : List ℕ) (P : Given → Type 0) (steps : List Terms) → Each (λ terms. P (givenOf image terms)) steps → Each P (map (givenOf image) steps)
@@ -43,7 +43,7 @@ given-sound image valid steps = given-each image (λ g. Sound (systemOf image) (
 pub record Checked (image : List ℕ) (lent : Lent) : Type 0 where
   pub valid : Valid image
   pub even : Even lent
-  pub few-places : length (lent .cases) ≤ 65536
+  pub few-places : length (lent .word .cases) ≤ 65536
 
 check-high : (b : Bool) (number later : ℕ) → 20 ≤ number → (later ≡ 0) ⊎ (20 ≤ later) → (check b number later ≡ 0) ⊎ (20 ≤ check b number later)
 unfolding check
@@ -161,7 +161,7 @@ module _ (image : List ℕ) (lent : Lent) (terms : Terms) where
           };
           symbols = eqb-true _ _ (is-true _ (neg-neg _ (λ t. odd (or-right _ _ (or-right _ _ t)))));
         };
-        few-places = ltb-false 65536 (length (lent .cases)) (is-false _ (λ t. rooms .1 (or-right _ _ (or-left _ _ t))));
+        few-places = ltb-false 65536 (length (lent .word .cases)) (is-false _ (λ t. rooms .1 (or-right _ _ (or-left _ _ t))));
       }
 
   -- a run's checks answer 0 or a number from 20 on
@@ -180,47 +180,47 @@ module _ (image : List ℕ) (lent : Lent) (terms : Terms) where
 
 module _ (image : List ℕ) (lent : Lent) (terms : Terms) where
   -- a run is refused, or it is the machine's
-  pub refused-run : (number : ℕ) → checkRun image lent terms ≡ number → 20 ≤ number → runOf image lent terms ≡ refused lent number
+  pub refused-run : (number : ℕ) → checkRun image lent terms ≡ number → 20 ≤ number → runOf image lent terms ≡ alone lent number
   unfolding runOf runWith
   refused-run zero e l = absurd (omega arith)
   refused-run (suc number) e l = ap (runWith image lent terms) e
 
   pub machine-run : checkRun image lent terms ≡ 0
-      → runOf image lent terms ≡ resultOf lent (chain (systemOf image) (roomsOf lent) (begin (systemOf image) (terms .edition)) (callsOf (givenOf image terms)))
-  unfolding runOf runWith endOf machine
+      → runOf image lent terms ≡ shown lent (chain (systemOf image) (roomsOf lent) (begin (systemOf image) (terms .edition)) (callsOf (givenOf image terms)))
+  unfolding runOf runWith machine
   machine-run e = ap (runWith image lent terms) e
 
-  refuses : (checkRun image lent terms ≡ 0 → ⊥) → Refused lent (checkRun image lent terms) (runOf image lent terms)
+  refuses : (checkRun image lent terms ≡ 0 → ⊥) → runOf image lent terms ≡ alone lent (checkRun image lent terms)
   refuses n = at (run-number image lent terms)
     where
-      at : (checkRun image lent terms ≡ 0) ⊎ (20 ≤ checkRun image lent terms) → Refused lent (checkRun image lent terms) (runOf image lent terms)
+      at : (checkRun image lent terms ≡ 0) ⊎ (20 ≤ checkRun image lent terms) → runOf image lent terms ≡ alone lent (checkRun image lent terms)
       at (inl e) = absurd (n e)
-      at (inr h) = is-alone (refused-run (checkRun image lent terms) refl h)
+      at (inr h) = refused-run (checkRun image lent terms) refl h
 
   -- a number that is the checks' and comes from a check that refuses
-  refuses-alike : (number : ℕ) → checkRun image lent terms ≡ number → (number ≡ 0 → ⊥) → Refused lent number (runOf image lent terms)
-  refuses-alike number e n = subst (λ (x : ℕ). Refused lent x (runOf image lent terms)) e (refuses (λ z. n (sym e ∙ z)))
+  refuses-alike : (number : ℕ) → checkRun image lent terms ≡ number → (number ≡ 0 → ⊥) → runOf image lent terms ≡ alone lent number
+  refuses-alike number e n = subst (λ (x : ℕ). runOf image lent terms ≡ alone lent x) e (refuses (λ z. n (sym e ∙ z)))
 
-  refuses-image : (Valid image → ⊥) → Refused lent (checkImage image) (runOf image lent terms)
+  refuses-image : (Valid image → ⊥) → runOf image lent terms ≡ alone lent (checkImage image)
   refuses-image n = refuses-alike _ (image-number image lent terms n) n
 
   -- an edition other than 1 or 2 is refused, after whatever refuses the run in edition 1 and by way 0
   refuses-edition : (terms .edition ≡ 1 → ⊥) → (terms .edition ≡ 2 → ⊥) → checkRun image lent (inEdition 1 (byWay 0 terms)) ≡ 0
-      → Refused lent 36 (runOf image lent terms)
+      → runOf image lent terms ≡ alone lent 36
   unfolding checkRun
   refuses-edition first second e = refuses-alike 36 (edition-refused lent (terms .hints) (terms .edition) (terms .way) first second (checkImage image) e) (λ z. omega arith)
 
   edition-after : (checkRun image lent (inEdition 1 (byWay 0 terms)) ≡ 0 → ⊥)
-      → Refused lent (checkRun image lent (inEdition 1 (byWay 0 terms))) (runOf image lent terms)
+      → runOf image lent terms ≡ alone lent (checkRun image lent (inEdition 1 (byWay 0 terms)))
   unfolding checkRun
   edition-after n = refuses-alike _ (edition-waits lent (terms .hints) (terms .edition) (terms .way) (checkImage image) n) n
 
   -- a way other than 0 or 1 is refused, after whatever refuses the run by way 0
-  refuses-way : (terms .way ≡ 0 → ⊥) → (terms .way ≡ 1 → ⊥) → checkRun image lent (byWay 0 terms) ≡ 0 → Refused lent 37 (runOf image lent terms)
+  refuses-way : (terms .way ≡ 0 → ⊥) → (terms .way ≡ 1 → ⊥) → checkRun image lent (byWay 0 terms) ≡ 0 → runOf image lent terms ≡ alone lent 37
   unfolding checkRun
   refuses-way first second e = refuses-alike 37 (way-refused lent (terms .hints) (terms .edition) (terms .way) first second (checkImage image) e) (λ z. omega arith)
 
-  way-after : (checkRun image lent (byWay 0 terms) ≡ 0 → ⊥) → Refused lent (checkRun image lent (byWay 0 terms)) (runOf image lent terms)
+  way-after : (checkRun image lent (byWay 0 terms) ≡ 0 → ⊥) → runOf image lent terms ≡ alone lent (checkRun image lent (byWay 0 terms))
   unfolding checkRun
   way-after n = refuses-alike _ (way-waits lent (terms .hints) (terms .edition) (terms .way) (checkImage image) n) n
 
@@ -233,8 +233,8 @@ module _ (image : List ℕ) (lent : Lent) (terms : Terms) where
   calls-each P p = each-same P (givenOf image terms) p (suc (terms .allowance))
 
   module _ (none : checkRun image lent terms ≡ 0) where
-    shows : runOf image lent terms ≡ resultOf lent (ends (end-is .outcome))
-    shows = machine-run none ∙ ap (resultOf lent) (end-is .is)
+    shows : runOf image lent terms ≡ shown lent (ends (end-is .outcome) (end-is .left))
+    shows = machine-run none ∙ ap (shown lent) (end-is .is)
 
     valid : Valid image
     valid = checked image lent terms none .valid
@@ -248,25 +248,25 @@ module _ (image : List ℕ) (lent : Lent) (terms : Terms) where
     run-ended : RunEnded image lent (terms .edition) (callsOf (givenOf image terms)) (runOf image lent terms)
     run-ended = ended-how image lent (terms .edition) valid (checked image lent terms none .even) sound (end-is .is) shows
 
-    run-decides : 2 ^ statesOf image ≤ length (lent .room .masks) → 2 ^ statesOf image ≤ length (lent .cases) → 4 ^ suc (statesOf image) ≤ terms .allowance
+    run-decides : 2 ^ statesOf image ≤ length (lent .room .masks) → 2 ^ statesOf image ≤ length (lent .word .cases) → 4 ^ suc (statesOf image) ≤ terms .allowance
         → Decides image lent (terms .edition) (callsOf (givenOf image terms)) (4 ^ suc (statesOf image)) (runOf image lent terms)
     run-decides places levels enough =
         ended-decides image lent (terms .edition) valid (checked image lent terms none .even) sound (end-is .is) shows places levels
         (calls-each (λ g. 4 ^ suc (statesOf image) ≤ g .allowance) enough)
 
-    run-allowed : runOf image lent terms .steps ≤ terms .allowance
-    unfolding resultOf
+    run-allowed : runOf image lent terms .run .steps ≤ terms .allowance
+    unfolding recordOf
     run-allowed =
-        subst (λ (r : Result). r .steps ≤ terms .allowance) (sym (machine-run none))
+        subst (λ (r : Stage). r .run .steps ≤ terms .allowance) (sym (machine-run none))
         (chain-within (systemOf image) (roomsOf lent) (terms .allowance) (terms .edition) (callsOf (givenOf image terms))
         (calls-each (λ g. g .allowance ≤ terms .allowance) (omega arith)))
 
-  in-allowance : runOf image lent terms .steps ≤ terms .allowance
+  in-allowance : runOf image lent terms .run .steps ≤ terms .allowance
   in-allowance = at (run-number image lent terms)
     where
-      at : (checkRun image lent terms ≡ 0) ⊎ (20 ≤ checkRun image lent terms) → runOf image lent terms .steps ≤ terms .allowance
+      at : (checkRun image lent terms ≡ 0) ⊎ (20 ≤ checkRun image lent terms) → runOf image lent terms .run .steps ≤ terms .allowance
       at (inl e) = run-allowed e
-      at (inr h) = omega (arith, is-alone (refused-run (checkRun image lent terms) refl h) .no-steps)
+      at (inr h) = omega (arith, ap (λ (r : Stage). r .run .steps) (refused-run (checkRun image lent terms) refl h))
 
   pub run-promises : RunPromises image lent terms (runOf image lent terms)
   run-promises =
@@ -287,7 +287,7 @@ module _ (image : List ℕ) (lent : Lent) (terms : Terms) where
 -- where the start is not final the two editions are one
 pub editions-agree : (image : List ℕ) (lent : Lent) (terms : Terms) → (Accepted (automatonOf image) [] → ⊥)
     → runOf image lent (inEdition 1 terms) ≡ runOf image lent (inEdition 2 terms)
-unfolding runOf runWith checkRun endOf machine
+unfolding runOf runWith checkRun machine
 editions-agree image lent terms not-final =
     ap (runWith image lent (inEdition 1 terms)) (editions-checked lent (terms .hints) (terms .way) (checkImage image))
     ∙ at (checkRun image lent (inEdition 2 terms)) refl
@@ -296,7 +296,7 @@ editions-agree image lent terms not-final =
         → runWith image lent (inEdition 1 terms) number ≡ runWith image lent (inEdition 2 terms) number
     at zero e =
         let valid = checked image lent (inEdition 2 terms) e .valid in
-        ap (λ (n : Next). resultOf lent (chain (systemOf image) (roomsOf lent) n (callsOf (givenOf image terms))))
+        ap (λ (n : Next). shown lent (chain (systemOf image) (roomsOf lent) n (callsOf (givenOf image terms))))
         (begin-alike (systemOf image) (λ t. not-final (accepted-by-runs image valid [] .1 (λ s m. absurd (in-none m), t))) 1 2)
     at (suc number) e = refl
 

@@ -1,14 +1,15 @@
 -- What holds of the counts of each configuration that a run reaches or ends in, and that its table and level fit the rooms. Assumes nothing.
 use Prim.Native.Nat.{_≤_}
+use mathlib.Core.Path.{_≡_, refl}
 use mathlib.Core.Bool.{Bool}
-use mathlib.Core.List.{List}
+use mathlib.Core.List.{List, []}
 use native.Mathlib.Omega.{arith}
 use lib.Dec.{ltb}
 use lib.ListN.{length}
 use Rattle.lists.proofs.Lists.{keep-length}
 use Rattle.machine.specs.System.{System}
 use Rattle.machine.specs.Machine.{Pending, Configuration, Given, Rooms, beginning}
-use Rattle.machine.specs.Machine.{Step, openStep, extendStep, blockStep, frame, closeWith, Next, comesTo}
+use Rattle.machine.specs.Machine.{Step, openStep, extendStep, blockStep, frame, closeWith, Next, ends, comesTo, Outcome}
 use Rattle.machine.proofs.Rising.{levels-shorter}
 use Rattle.machine.proofs.Passing.{chosen-is, chosen-hinted}
 use Rattle.machine.proofs.Steps.{under, closedTable, Taken, opening, finding, extending, blocking, closing, emptying, step-taken}
@@ -27,12 +28,12 @@ pub judged-counted : {S : System} {given : Given} {rooms : Rooms} {c : Configura
     {st : Step} {n : Next} → Taken S given c pending isOpen st → Judged rooms c st n → Counted rooms c → Counted rooms (comesTo n)
 unfolding openStep extendStep blockStep closeWith frame
 judged-counted opening (roomToOpen l) k = omega arith
-judged-counted opening (noRoomToOpen l) k = k
+judged-counted opening (noRoomToOpen l) k = omega arith
 judged-counted (finding s l t u) found k = omega arith
 judged-counted (extending s l t u) extended k = omega arith
 judged-counted {S} {given} {c = c} (blocking {p = p} {rest = rest} f) (roomToBlock l) k =
     omega (arith, chosen-hinted (chosen-is S given c (under c rest) (p .case)))
-judged-counted (blocking f) (noRoomToBlock l) k = k
+judged-counted (blocking f) (noRoomToBlock l) k = omega arith
 judged-counted {S} {c = c} (closing e) closed k = omega (arith, levels-shorter S (c .level) 1 (c .table))
 judged-counted {S} {c = c} (emptying j l h t) emptied k =
     omega (arith, keep-length (λ b. ltb j (b .level)) (closedTable S c), levels-shorter S (c .level) 1 (c .table))
@@ -41,7 +42,21 @@ judged-counted {S} {c = c} (emptying j l h t) emptied k =
 pub advanced-counted : {S : System} {rooms : Rooms} {given : Given} {c : Configuration} {n : Next} → Advanced S rooms given c n → Counted rooms c
     → Counted rooms (comesTo n)
 advanced-counted {given = given} {c = c} (tried l j) k = judged-counted (step-taken {given = given} c) j k
-advanced-counted (spent l) k = k
+advanced-counted (spent l) k = omega arith
+
+-- a step that ends a run leaves nothing pending, and so does a call
+judged-halts : {S : System} {given : Given} {rooms : Rooms} {c left : Configuration} {pending : List Pending} {isOpen : Bool} {st : Step} {outcome : Outcome}
+    → Taken S given c pending isOpen st → Judged rooms c st (ends outcome left) → left .pending ≡ []
+unfolding openStep extendStep blockStep closeWith
+judged-halts opening (noRoomToOpen l) = refl
+judged-halts (finding s l t u) found = refl
+judged-halts (blocking f) (noRoomToBlock l) = refl
+judged-halts (emptying j l h t) emptied = refl
+
+pub advanced-halts : {S : System} {rooms : Rooms} {given : Given} {c left : Configuration} {outcome : Outcome} → Advanced S rooms given c (ends outcome left)
+    → left .pending ≡ []
+advanced-halts {given = given} {c = c} (tried l j) = judged-halts (step-taken {given = given} c) j
+advanced-halts (spent l) = refl
 
 -- they are so at the beginning
 pub beginning-counted : (rooms : Rooms) → Counted rooms beginning

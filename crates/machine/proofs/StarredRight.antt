@@ -12,13 +12,13 @@ use Rattle.machine.specs.Machine.{withState, withStates, byStates, hintA
 use Rattle.machine.specs.Machine.{workOn, workStep, rises, risen, riseAlong, riseLevels, noneAt, frame, closeWith, closeStep}
 use Rattle.machine.specs.Machine.{settled, step, stepOn, judge, advance, chain, startAnswer, start, machine}
 use Rattle.machine.specs.Why.{firstCovering, absentReason, why}
-use Rattle.machine.specs.Lent.{column, columnBack, placed, withTable}
+use Rattle.machine.specs.Lent.{column, columnBack, placed, withTable, withPending, withWord}
 use Rattle.machine.specs.Hitting.{coverBy, cover, casesOutside, casesFrom, forbidden, withSet, withCases, toMeet}
 use Rattle.machine.specs.Hitting.{meets, bestFrom, best, unmet, pickedFrom, picked, byHittingSet, growthOf}
-use Rattle.machine.specs.Runs.{refused, numberOf, casesIn, symbolsIn, tablesAfter, resultOf, oddRooms, oversize, unknownEdition, unknownWay, checkTerms}
-use Rattle.machine.specs.Runs.{checkRun, endOf, runWith, runOf}
+use Rattle.machine.specs.Runs.{fiveNumbers, endNumber, numberOf, recordOf, wordIn, wordLeft, tablesAfter, oddRooms, oversize, unknownEdition}
+use Rattle.machine.specs.Runs.{unknownWay, checkTerms, checkRun, runWith, runOf}
 use Rattle.machine.specs.Starred.{starred, Right, AllRight}
 
 pub starred-right : AllRight starred
-unfolding starred Right AllRight runOf runWith checkRun checkTerms oddRooms oversize unknownEdition unknownWay checkImage check outside pairsHold pairHolds spanStart rowsHold rowHolds little8 little4 little2 endOf machine start startAnswer chain advance judge beginning step stepOn workStep workOn openStep closeStep closeWith extendStep blockStep chosen chosenFrom hintAt growthOf byHittingSet picked pickedFrom unmet best bestFrom meets toMeet withCases withSet forbidden casesFrom casesOutside cover coverBy why firstCovering absentReason lowestAbsent absent without full byStates withStates withState passes blocked covers finalPending pendingAfter qualifies settled wordOf leaves staying rises risen riseAlong riseLevels noneAt frame rowsOf rowsFrom backward withRows withRow resultOf numberOf casesIn symbolsIn tablesAfter withTable refused placed columnBack column wordTest testWord known accepts takenBack oneIf any all keep firstFrom eachFrom subset union single member within _and_ _or_ neg choose
+unfolding starred Right AllRight runOf runWith checkRun checkTerms oddRooms oversize unknownEdition unknownWay checkImage check outside pairsHold pairHolds spanStart rowsHold rowHolds little8 little4 little2 machine start startAnswer chain advance judge beginning step stepOn workStep workOn openStep closeStep closeWith extendStep blockStep chosen chosenFrom hintAt growthOf byHittingSet picked pickedFrom unmet best bestFrom meets toMeet withCases withSet forbidden casesFrom casesOutside cover coverBy why firstCovering absentReason lowestAbsent absent without full byStates withStates withState passes blocked covers finalPending pendingAfter qualifies settled wordOf leaves staying rises risen riseAlong riseLevels noneAt frame rowsOf rowsFrom backward withRows withRow fiveNumbers recordOf numberOf endNumber wordIn wordLeft tablesAfter withTable withPending withWord placed columnBack column wordTest testWord known accepts takenBack oneIf any all keep firstFrom eachFrom subset union single member within _and_ _or_ neg choose
 starred-right = (refl, (refl, (refl, (refl, (refl, (refl, (refl, (refl, (refl, (refl, (refl, (refl, (refl, (refl, (refl, (refl, tt))))))))))))))))

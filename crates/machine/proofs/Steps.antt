@@ -19,7 +19,7 @@ use Rattle.machine.specs.System.{System}
 use Rattle.machine.specs.Machine.{Blocker, Pending, Configuration, Given, Rooms}
 use Rattle.machine.specs.Machine.{Step, opens, extends, blocks, closes, answersNonempty, answersEmpty}
 use Rattle.machine.specs.Machine.{qualifies, chosen, riseLevels, noneAt, openStep, extendStep, blockStep, closeWith, closeStep}
-use Rattle.machine.specs.Machine.{workOn, workStep, stepOn, step, Next, goesOn, ends, judge, advance, chain}
+use Rattle.machine.specs.Machine.{workOn, workStep, stepOn, step, Next, goesOn, ends, halted, judge, advance, chain}
 use Rattle.machine.specs.Machine.{Outcome, nonempty, empty, stepsLack, blockersLack, wordLacks}
 use Rattle.machine.specs.Meaning.{EndingCall, raise}
 
@@ -114,23 +114,23 @@ pub data Judged (rooms : Rooms) (c : Configuration) : Step → Next → Type 0 w
   extended : {d : Configuration} → Judged rooms c (extends d) (goesOn d)
   roomToBlock : {d : Configuration} → length (d .table) ≤ rooms .blockers → Judged rooms c (blocks d) (goesOn d)
   closed : {d : Configuration} → Judged rooms c (closes d) (goesOn d)
-  found : {word : List ℕ} {d : Configuration} → Judged rooms c (answersNonempty word d) (ends (nonempty word d))
-  emptied : {d : Configuration} → Judged rooms c (answersEmpty d) (ends (empty d))
-  noRoomToOpen : {d : Configuration} → rooms .word ≤ c .level → Judged rooms c (opens d) (ends (wordLacks c))
-  noRoomToBlock : {d : Configuration} → rooms .blockers < length (d .table) → Judged rooms c (blocks d) (ends (blockersLack c))
+  found : {word : List ℕ} {d : Configuration} → Judged rooms c (answersNonempty word d) (ends (nonempty word) d)
+  emptied : {d : Configuration} → Judged rooms c (answersEmpty d) (ends empty d)
+  noRoomToOpen : {d : Configuration} → rooms .word ≤ c .level → Judged rooms c (opens d) (ends wordLacks (halted c))
+  noRoomToBlock : {d : Configuration} → rooms .blockers < length (d .table) → Judged rooms c (blocks d) (ends blockersLack (halted c))
 
 -- each step is judged so
 judge-judged : {rooms : Rooms} {c : Configuration} (st : Step) → Judged rooms c st (judge rooms c st)
 unfolding judge choose
 judge-judged {rooms} {c} (opens d) = at (ltb (c .level) (rooms .word)) refl
   where
-    at : (b : Bool) → ltb (c .level) (rooms .word) ≡ b → Judged rooms c (opens d) (choose b (goesOn d) (ends (wordLacks c)))
+    at : (b : Bool) → ltb (c .level) (rooms .word) ≡ b → Judged rooms c (opens d) (choose b (goesOn d) (ends wordLacks (halted c)))
     at true e = roomToOpen (ltb-true _ _ e)
     at false e = noRoomToOpen (ltb-false _ _ e)
 judge-judged (extends d) = extended
 judge-judged {rooms} {c} (blocks d) = at (leb (length (d .table)) (rooms .blockers)) refl
   where
-    at : (b : Bool) → leb (length (d .table)) (rooms .blockers) ≡ b → Judged rooms c (blocks d) (choose b (goesOn d) (ends (blockersLack c)))
+    at : (b : Bool) → leb (length (d .table)) (rooms .blockers) ≡ b → Judged rooms c (blocks d) (choose b (goesOn d) (ends blockersLack (halted c)))
     at true e = roomToBlock (leb-true _ _ e)
     at false e = noRoomToBlock (leb-false _ _ e)
 judge-judged (closes d) = closed
@@ -151,30 +151,30 @@ judged-made closed = refl
 -- a run works or has ended, not both
 abbrev isEnded : Next → ℕ
 isEnded (goesOn c) = 0
-isEnded (ends outcome) = 1
+isEnded (ends outcome c) = 1
 
-pub works-or-ended : {c : Configuration} {outcome : Outcome} → goesOn c ≡ ends outcome → ⊥
+pub works-or-ended : {c left : Configuration} {outcome : Outcome} → goesOn c ≡ ends outcome left → ⊥
 works-or-ended e = let z : _≡_ {A = ℕ} 0 1 = ap isEnded e in omega arith
 
 -- it works in one configuration, or has one outcome
 abbrev worksIn : Configuration → Next → Configuration
 worksIn other (goesOn c) = c
-worksIn other (ends outcome) = other
+worksIn other (ends outcome c) = other
 
 pub works-once : {c d : Configuration} → goesOn c ≡ goesOn d → c ≡ d
 works-once {c} e = ap (worksIn c) e
 
 abbrev outcomeIn : Outcome → Next → Outcome
 outcomeIn other (goesOn c) = other
-outcomeIn other (ends outcome) = outcome
+outcomeIn other (ends outcome c) = outcome
 
-pub ends-once : {o u : Outcome} → ends o ≡ ends u → o ≡ u
+pub ends-once : {o u : Outcome} {c d : Configuration} → ends o c ≡ ends u d → o ≡ u
 ends-once {o} e = ap (outcomeIn o) e
 
 -- what comes of a call: the step is made, answers or finds no room; or its allowance is used up
 pub data Advanced (S : System) (rooms : Rooms) (given : Given) (c : Configuration) : Next → Type 0 where
   tried : {n : Next} → c .steps < given .allowance → Judged rooms c (step S given c) n → Advanced S rooms given c n
-  spent : given .allowance ≤ c .steps → Advanced S rooms given c (ends (stepsLack c))
+  spent : given .allowance ≤ c .steps → Advanced S rooms given c (ends stepsLack (halted c))
 
 module _ (S : System) (rooms : Rooms) where
   -- each call of a working run comes out so
@@ -182,7 +182,7 @@ module _ (S : System) (rooms : Rooms) where
   unfolding advance choose
   advanced given c = at (ltb (c .steps) (given .allowance)) refl
     where
-      at : (b : Bool) → ltb (c .steps) (given .allowance) ≡ b → Advanced S rooms given c (choose b (judge rooms c (step S given c)) (ends (stepsLack c)))
+      at : (b : Bool) → ltb (c .steps) (given .allowance) ≡ b → Advanced S rooms given c (choose b (judge rooms c (step S given c)) (ends stepsLack (halted c)))
       at true e = tried (ltb-true _ _ e) (judge-judged (step S given c))
       at false e = spent (ltb-false _ _ e)
 
@@ -206,19 +206,19 @@ module _ (S : System) (rooms : Rooms) where
       chain-keeps P Good keeps (advance S rooms given n) later (λ g m. good g (there m)) (keeps given n (good given (here refl)) p)
 
   -- a chain that has ended stays as it is
-  pub ended-stays : (outcome : Outcome) (given : List Given) → chain S rooms (ends outcome) given ≡ ends outcome
+  pub ended-stays : (outcome : Outcome) (left : Configuration) (given : List Given) → chain S rooms (ends outcome left) given ≡ ends outcome left
   unfolding chain advance
-  ended-stays outcome [] = refl
-  ended-stays outcome (given ∷ later) = ended-stays outcome later
+  ended-stays outcome left [] = refl
+  ended-stays outcome left (given ∷ later) = ended-stays outcome left later
 
   -- a call before a chain that had ended, or was ended by one of its calls
-  ended-before : {outcome : Outcome} (given : Given) (later : List Given) (n : Next)
-      → (advance S rooms given n ≡ ends outcome) ⊎ EndingCall S rooms (advance S rooms given n) later outcome
-      → (n ≡ ends outcome) ⊎ EndingCall S rooms n (given ∷ later) outcome
+  ended-before : {outcome : Outcome} {left : Configuration} (given : Given) (later : List Given) (n : Next)
+      → (advance S rooms given n ≡ ends outcome left) ⊎ EndingCall S rooms (advance S rooms given n) later outcome left
+      → (n ≡ ends outcome left) ⊎ EndingCall S rooms n (given ∷ later) outcome left
   unfolding advance chain
   ended-before given later (goesOn c) (inl e) =
       inr (record { before = []; last = given; later = later; at = c; split = refl; reached = refl; ended = e })
-  ended-before given later (ends o) (inl e) = inl e
+  ended-before given later (ends o c) (inl e) = inl e
   ended-before given later (goesOn c) (inr r) =
       inr (record {
         before = given ∷ r .before;
@@ -229,11 +229,11 @@ module _ (S : System) (rooms : Rooms) where
         reached = r .reached;
         ended = r .ended;
       })
-  ended-before given later (ends o) (inr r) = absurd (works-or-ended (sym (sym (ended-stays o (r .before)) ∙ r .reached)))
+  ended-before given later (ends o c) (inr r) = absurd (works-or-ended (sym (sym (ended-stays o c (r .before)) ∙ r .reached)))
 
   -- a chain that has ended had ended at first, or was ended by one of its calls
-  pub chain-ended-by : {outcome : Outcome} (n : Next) (given : List Given) → chain S rooms n given ≡ ends outcome
-      → (n ≡ ends outcome) ⊎ EndingCall S rooms n given outcome
+  pub chain-ended-by : {outcome : Outcome} {left : Configuration} (n : Next) (given : List Given) → chain S rooms n given ≡ ends outcome left
+      → (n ≡ ends outcome left) ⊎ EndingCall S rooms n given outcome left
   unfolding chain
   chain-ended-by n [] e = inl e
   chain-ended-by n (given ∷ later) e = ended-before given later n (chain-ended-by (advance S rooms given n) later e)

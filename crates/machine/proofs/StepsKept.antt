@@ -12,10 +12,11 @@ use Rattle.lists.proofs.Tests.{choose-true}
 use Rattle.automata.specs.Image.{Valid, check, statesOf}
 use Rattle.automata.specs.Automaton.{automatonOf, HoldOne}
 use Rattle.automata.specs.Acceptance.{Accepted}
-use Rattle.machine.specs.Machine.{Given, Outcome, Next, goesOn, ends, comesTo, chain, begin}
-use Rattle.machine.specs.Runs.{Lent, Terms, Result, systemOf, givenOf, roomsOf, refused, numberOf, resultOf, checkRun, runOf}
-use Rattle.machine.specs.Records.{Stage, configurationOf, recordOf, after, shown, Called, answering, aloneRecord, beginWith, beginOf}
-use Rattle.machine.specs.Records.{broken, checkRecord, checkStep, stepOf, stepsFrom, reachedBy, unrefused, givenBy, resultFrom}
+use Rattle.machine.specs.Machine.{Configuration, Given, Outcome, Next, goesOn, ends, comesTo, chain, begin}
+use Rattle.machine.specs.Lent.{Lent}
+use Rattle.machine.specs.Runs.{Terms, Stage, systemOf, givenOf, roomsOf, endNumber, numberOf, recordOf, shown, alone, checkRun, runOf}
+use Rattle.machine.specs.Records.{configurationOf, after, Called, answering, beginWith, beginOf}
+use Rattle.machine.specs.Records.{broken, checkRecord, checkStep, stepOf, stepsFrom, reachedBy, unrefused, givenBy}
 use Rattle.machine.specs.Promises.{Unbroken, Verdict, Agreed, BeginPromises, StepPromises, StepsPromises, RunBy, atOnce, bySteps}
 use Rattle.machine.proofs.Language.{Lawful}
 use Rattle.machine.proofs.Steps.{Advanced, tried, spent as used-up, advanced}
@@ -26,20 +27,20 @@ use Rattle.machine.proofs.Judging.{number-low, results-agree, ended-don
 use Rattle.machine.proofs.RunsKept.{given-each, given-sound, checked, run-number, refused-run, machine-run}
 use Rattle.machine.proofs.AnyRecord.{unbroken-means, lengths-same, run-first, takes-checked, checked-passed, stepped}
 use Rattle.machine.proofs.AnyRecord.{stepped-refused, stepped-finished, stepped-works, stepped-changes, stepped-takes, unworked-stays}
-use Rattle.machine.proofs.RecordSteps.{begin-shown, begin-takes, steps-shown, shown-result}
+use Rattle.machine.proofs.RecordSteps.{begin-shown, begin-takes, steps-shown}
 
 module _ (image : List ℕ) (lent : Lent) (terms : Terms) where
   begin-refuses : (checkRun image lent terms ≡ 0 → ⊥)
-      → beginOf image lent terms ≡ answering (record { tables = lent; run = aloneRecord (checkRun image lent terms) })
+      → beginOf image lent terms ≡ answering (alone lent (checkRun image lent terms))
   unfolding beginOf beginWith
   begin-refuses = at (checkRun image lent terms)
     where
-      at : (number : ℕ) → (number ≡ 0 → ⊥) → beginWith image lent (terms .edition) number ≡ answering (record { tables = lent; run = aloneRecord number })
+      at : (number : ℕ) → (number ≡ 0 → ⊥) → beginWith image lent (terms .edition) number ≡ answering (alone lent number)
       at zero f = absurd (f refl)
       at (suc number) f = refl
 
   refused-stays : (checkRun image lent terms ≡ 0 → ⊥) → (steps : List Terms)
-      → reachedBy image lent terms steps ≡ record { tables = lent; run = aloneRecord (checkRun image lent terms) }
+      → reachedBy image lent terms steps ≡ alone lent (checkRun image lent terms)
   refused-stays f steps =
       ap (λ (called : Called). stepsFrom image (called .left) steps) (begin-refuses f) ∙ unworked-stays image _ not-six steps
     where
@@ -83,7 +84,7 @@ module _ (image : List ℕ) (terms : Terms) (at : Stage) where
   -- a call whose allowance is used up makes no step
   spent-number : {n : Next} → Advanced (systemOf image) (roomsOf (at .tables)) (givenOf image terms) (configurationOf at) n → terms .allowance ≤ at .run .steps
       → numberOf n ≡ 2
-  unfolding numberOf
+  unfolding numberOf endNumber
   spent-number (tried l j) h = absurd (omega arith)
   spent-number (used-up l) h = refl
 
@@ -129,9 +130,6 @@ module _ (image : List ℕ) (lent : Lent) (begun : Terms) (steps : List Terms) (
   unfolding recordOf
   made-level = ap (λ (at : Stage). at .run .level) made-shows
 
-  made-result : resultFrom (reachedBy image lent begun steps) ≡ resultOf lent stands
-  made-result = ap resultFrom made-shows ∙ shown-result lent stands
-
   sound : AllSound (systemOf image) (givenBy image lent steps)
   sound = given-sound image (checked image lent begun none .valid) (unrefused image lent steps)
 
@@ -146,7 +144,7 @@ module _ (image : List ℕ) (lent : Lent) (begun : Terms) (steps : List Terms) (
       where
         at : (n : Next) → stands ≡ n → Works stands
         at (goesOn c) e = record { at = c; is = e }
-        at (ends o) e = absurd (omega (arith, sym six ∙ made-answer ∙ ap numberOf e, number-low o))
+        at (ends o c) e = absurd (omega (arith, sym six ∙ made-answer ∙ ap numberOf e, number-low o))
 
     works-no-more : 4 ^ suc (statesOf image) ≤ length (unrefused image lent steps) → ⊥
     works-no-more many =
@@ -174,20 +172,20 @@ module _ (image : List ℕ) (lent : Lent) (begun : Terms) (steps : List Terms) (
       where
         at : (n : Next) → stands ≡ n → Ended stands
         at (goesOn c) e = absurd (f (made-answer ∙ ap numberOf e))
-        at (ends o) e = record { outcome = o; is = e }
+        at (ends o c) e = record { outcome = o; left = c; is = e }
 
-    ended-result : resultFrom (reachedBy image lent begun steps) ≡ resultOf lent (ends (ended .outcome))
-    ended-result = made-result ∙ ap (resultOf lent) (ended .is)
+    ended-shows : reachedBy image lent begun steps ≡ shown lent (ends (ended .outcome) (ended .left))
+    ended-shows = made-shows ∙ ap (shown lent) (ended .is)
 
   pub steps-promises : StepsPromises image lent begun steps (reachedBy image lent begun steps)
   steps-promises =
       let c = checked image lent begun none in
       record {
         shows = made-shows;
-        judged = λ f. ended-rules image lent (begun .edition) (c .valid) (c .even) sound (ended f .is) (ended-result f);
-        ended = λ f. ended-how image lent (begun .edition) (c .valid) (c .even) sound (ended f .is) (ended-result f);
+        judged = λ f. ended-rules image lent (begun .edition) (c .valid) (c .even) sound (ended f .is) (ended-shows f);
+        ended = λ f. ended-how image lent (begun .edition) (c .valid) (c .even) sound (ended f .is) (ended-shows f);
         stays = λ f. unworked-stays image (reachedBy image lent begun steps) f;
-        decides = λ f few places levels enough. ended-decides image lent (begun .edition) (c .valid) (c .even) sound (ended f .is) (ended-result f)
+        decides = λ f few places levels enough. ended-decides image lent (begun .edition) (c .valid) (c .even) sound (ended f .is) (ended-shows f)
             places levels (given-each image (λ given. 4 ^ suc (statesOf image) ≤ given .allowance) (unrefused image lent steps) enough);
         works-no-more = λ many six. works-no-more six many;
         working-shows = working-shows;
@@ -201,74 +199,70 @@ same-given image lent terms none zero = refl
 same-given image lent terms none (suc count) =
     ap (map (givenOf image)) (choose-true _ _ (rw none)) ∙ ap (λ (later : List Given). givenOf image terms ∷ later) (same-given image lent terms none count)
 
-refused-result : (image : List ℕ) (lent : Lent) (begun : Terms) (steps : List Terms) → (checkRun image lent begun ≡ 0 → ⊥)
-    → resultFrom (reachedBy image lent begun steps) ≡ refused lent (checkRun image lent begun)
-unfolding refused
-refused-result image lent begun steps f = ap resultFrom (refused-stays image lent begun f steps)
-
 -- "The former run must equal begin, then steps."
 pub run-is-steps : (image : List ℕ) (lent : Lent) (terms : Terms)
-    → runOf image lent terms ≡ resultFrom (reachedBy image lent terms (replicate (suc (terms .allowance)) terms))
+    → runOf image lent terms ≡ reachedBy image lent terms (replicate (suc (terms .allowance)) terms)
 run-is-steps image lent terms = at (run-number image lent terms)
   where
     equal : List Terms
     equal = replicate (suc (terms .allowance)) terms
 
-    at : (checkRun image lent terms ≡ 0) ⊎ (20 ≤ checkRun image lent terms) → runOf image lent terms ≡ resultFrom (reachedBy image lent terms equal)
+    at : (checkRun image lent terms ≡ 0) ⊎ (20 ≤ checkRun image lent terms) → runOf image lent terms ≡ reachedBy image lent terms equal
     at (inl none) =
         machine-run image lent terms none
-        ∙ sym (made-result image lent terms equal none
-        ∙ ap (λ (calls : List Given). resultOf lent (chain (systemOf image) (roomsOf lent) (begin (systemOf image) (terms .edition)) calls))
+        ∙ sym (made-shows image lent terms equal none
+        ∙ ap (λ (calls : List Given). shown lent (chain (systemOf image) (roomsOf lent) (begin (systemOf image) (terms .edition)) calls))
         (same-given image lent terms none (suc (terms .allowance))))
-    at (inr l) = refused-run image lent terms (checkRun image lent terms) refl l ∙ sym (refused-result image lent terms equal (λ e. omega arith))
+    at (inr l) = refused-run image lent terms (checkRun image lent terms) refl l ∙ sym (refused-stays image lent terms (λ e. omega arith) equal)
 
 -- a run that reached a verdict, at once or step by step: its image was taken, and its outcome is right
-record Reached (image : List ℕ) (lent : Lent) (edition : ℕ) (r : Result) : Type 0 where
+record Reached (image : List ℕ) (lent : Lent) (edition : ℕ) (r : Stage) : Type 0 where
   valid : Valid image
   outcome : Outcome
-  done : Done (systemOf image) (roomsOf lent) edition outcome
-  shows : r ≡ resultOf lent (ends outcome)
+  left : Configuration
+  done : Done (systemOf image) (roomsOf lent) edition outcome left
+  shows : r ≡ shown lent (ends outcome left)
 
 verdict-low : {edition number : ℕ} → Verdict edition number → number ≤ 5
 verdict-low (inl l) = omega arith
 verdict-low (inr e) = omega (arith, e .1)
 
 steps-reached : (image : List ℕ) (lent : Lent) (begun : Terms) (steps : List Terms) → reachedBy image lent begun steps .run .answer ≤ 5
-    → Reached image lent (begun .edition) (resultFrom (reachedBy image lent begun steps))
-unfolding refused
+    → Reached image lent (begun .edition) (reachedBy image lent begun steps)
 steps-reached image lent begun steps low = at (run-number image lent begun)
   where
     not-six : reachedBy image lent begun steps .run .answer ≡ 6 → ⊥
     not-six six = omega arith
 
-    at : (checkRun image lent begun ≡ 0) ⊎ (20 ≤ checkRun image lent begun) → Reached image lent (begun .edition) (resultFrom (reachedBy image lent begun steps))
+    at : (checkRun image lent begun ≡ 0) ⊎ (20 ≤ checkRun image lent begun) → Reached image lent (begun .edition) (reachedBy image lent begun steps)
     at (inl none) =
         let c = checked image lent begun none in
         let end = ended image lent begun steps none not-six in
-        let shows = ended-result image lent begun steps none not-six in
+        let shows = ended-shows image lent begun steps none not-six in
         record {
           valid = c .valid;
           outcome = end .outcome;
+          left = end .left;
           done = ended-done image lent (begun .edition) (c .valid) (c .even) (sound image lent begun steps none) (end .is) shows;
           shows = shows;
         }
-    at (inr l) = absurd (omega (arith, low, l, ap (λ (r : Result). r .number) (refused-result image lent begun steps (λ e. omega arith))))
+    at (inr l) = absurd (omega (arith, low, l, ap (λ (r : Stage). r .run .answer) (refused-stays image lent begun (λ e. omega arith) steps)))
 
-reached : {image : List ℕ} {lent : Lent} {edition : ℕ} {r : Result} → RunBy image lent edition r → Verdict edition (r .number) → Reached image lent edition r
+reached : {image : List ℕ} {lent : Lent} {edition : ℕ} {r : Stage} → RunBy image lent edition r → Verdict edition (r .run .answer) → Reached image lent edition r
 reached {image} {lent} (bySteps begun steps) v = steps-reached image lent begun steps (verdict-low v)
 reached {image} {lent} (atOnce terms) v =
     let same = run-is-steps image lent terms in
     subst (Reached image lent (terms .edition)) (sym same)
     (steps-reached image lent terms (replicate (suc (terms .allowance)) terms)
-    (verdict-low (subst (λ (r : Result). Verdict (terms .edition) (r .number)) same v)))
+    (verdict-low (subst (λ (r : Stage). Verdict (terms .edition) (r .run .answer)) same v)))
 
 -- two runs that reach a verdict agree, within one edition
-pub runs-agree : (image other : List ℕ) (lent lent′ : Lent) (edition : ℕ) (r s : Result) → HoldOne image other → RunBy image lent edition r
-    → RunBy other lent′ edition s → Verdict edition (r .number) → Verdict edition (s .number) → Agreed r s
+pub runs-agree : (image other : List ℕ) (lent lent′ : Lent) (edition : ℕ) (r s : Stage) → HoldOne image other → RunBy image lent edition r
+    → RunBy other lent′ edition s → Verdict edition (r .run .answer) → Verdict edition (s .run .answer) → Agreed r s
 runs-agree image other lent lent′ edition r s same run run′ v v′ =
     let one = reached run v in
     let two = reached run′ v′ in
     rw (one .shows, two .shows)
     (results-agree image other lent lent′ edition (one .valid) (two .valid) same (one .done) (two .done)
-    (subst (λ (x : Result). Verdict edition (x .number)) (one .shows) v)
-    (subst (λ (x : Result). Verdict edition (x .number)) (two .shows) v′))
+    (subst (λ (x : Stage). Verdict edition (x .run .answer)) (one .shows) v)
+    (subst (λ (x : Stage). Verdict edition (x .run .answer)) (two .shows) v′))

@@ -18,7 +18,7 @@ use Rattle.machine.specs.Machine.{staying, finalPending, pendingAfter}
 use Rattle.machine.specs.Machine.{Step, opens, extends, blocks, closes, answersNonempty, answersEmpty, extendStep, blockStep, step}
 use Rattle.machine.proofs.Language.{Sound}
 use Rattle.machine.proofs.Tables.{means-blocked, byBlocker}
-use Rattle.machine.proofs.Rising.{placed}
+use Rattle.machine.proofs.Rising.{putAmong}
 use Rattle.machine.proofs.Passing.{Passes, means-passes, chosen-is, chosen-passes}
 use Rattle.machine.proofs.Steps.{under, madeBy, Taken, finding, extending, blocking, step-taken}
 use Rattle.machine.proofs.Invariant.{Invariant, Comes, final, chain-lowest, entering, block-covers}
@@ -76,13 +76,13 @@ module _ (S : System) {F : ℕ} (one : S .finals ≡ F ∷ []) where
   -- after a block the cases above are pending, and no other
   after-block : {table : List Blocker} {N : ℕ} {p : Pending} (rest : List Pending) (inv : Invariant S table N (p ∷ rest)) {mask : ℕ} (entered : ℕ)
       → Passes S table (N - suc (length rest)) (p .case) mask
-      → pendingAfter (S .initial) (S .finals) (placed table (entering N rest mask entered) []) N rest ≡ rest
+      → pendingAfter (S .initial) (S .finals) (putAmong table (entering N rest mask entered) []) N rest ≡ rest
   unfolding pendingAfter
   after-block {table} {N} {p} [] inv {mask} entered passing =
       let own = chain-lowest (inv .chain) in
       let level : suc (N - 1) ≡ N = omega (arith, own .high) in
       let test = is-true _ (means-blocked {S = S} (byBlocker (block-covers inv entered passing))) in
-      let new : List Blocker = placed table (entering N [] mask entered) [] in
+      let new : List Blocker = putAmong table (entering N [] mask entered) [] in
       ap (λ (finals : List ℕ). finalPending (S .initial) finals new N) one
       ∙ blocked-waits-not (S .initial) F new N
       (subst (λ (i : ℕ). blocked (S .initial) new i F ≡ true) level
@@ -91,7 +91,7 @@ module _ (S : System) {F : ℕ} (one : S .finals ≡ F ∷ []) where
 
   pub block-leaves : (given : Given) → Sound S (given .grow) → (c : Configuration) → Holds S c → {X : Pending} {rest : List Pending} {d : Configuration}
       → c .pending ≡ X ∷ rest → step S given c ≡ blocks d → d .pending ≡ rest
-  unfolding blockStep placed staying keep
+  unfolding blockStep putAmong staying keep
   block-leaves given sound c inv {X} {rest} waits made =
       let h = subst (Invariant S (c .table) (c .level)) waits inv in
       let block = made-for {given = given} waits made in

@@ -21,7 +21,7 @@ use Rattle.machine.specs.Machine.{Outcome, nonempty, empty, stepsLack, b
 use Rattle.machine.specs.Meaning.{Inside, Closed}
 use Rattle.machine.proofs.Language.{takenBack, Word, accepts, Lawful, Sound, NoneAccepted, NoneShorter, Shortest}
 use Rattle.machine.proofs.Tables.{Covered, Blocked, blocked-covered, blocked-lower, blocked-accepts-none}
-use Rattle.machine.proofs.Rising.{placed}
+use Rattle.machine.proofs.Rising.{putAmong}
 use Rattle.machine.proofs.Passing.{Passes, unqualified-held, chosen-is, chosen-passes}
 use Rattle.machine.proofs.Steps.{under, Taken, opening, finding, extending, blocking, closing, emptying, step-taken}
 use Rattle.machine.proofs.Steps.{Judged, roomToOpen, extended, roomToBlock, closed, found, emptied, noRoomToOpen, noRoomToBlock}
@@ -134,13 +134,13 @@ Right S (answersNonempty word d) = FoundWord S word d
 Right S (answersEmpty d) = Closed S (d .table)
 
 -- a verdict is right, in its edition, and a stop has shown that no accepted word is shorter than its level, or as long as the word room or shorter
-abbrev pub RightAnswer : System → Rooms → ℕ → Outcome → Type 0
-RightAnswer S rooms edition (nonempty word c) = FoundWord S word c
-RightAnswer S rooms edition (empty c) = Closed S (c .table)
-RightAnswer S rooms edition (stepsLack c) = NoneShorter S (c .level)
-RightAnswer S rooms edition (blockersLack c) = NoneShorter S (c .level)
-RightAnswer S rooms edition (wordLacks c) = NoneShorter S (suc (rooms .word))
-RightAnswer S rooms edition startsFinal = (edition ≡ 2) × T (accepts S [])
+abbrev pub RightAnswer : System → Rooms → ℕ → Outcome → Configuration → Type 0
+RightAnswer S rooms edition (nonempty word) left = FoundWord S word left
+RightAnswer S rooms edition empty left = Closed S (left .table)
+RightAnswer S rooms edition stepsLack left = NoneShorter S (left .level)
+RightAnswer S rooms edition blockersLack left = NoneShorter S (left .level)
+RightAnswer S rooms edition wordLacks left = NoneShorter S (suc (rooms .word))
+RightAnswer S rooms edition startsFinal left = (edition ≡ 2) × T (accepts S []) × (left ≡ beginning)
 
 -- "if I is a subset of F" was answered no
 pub clear-finals : (S : System) → any (subset (S .initial)) (S .finals) ≡ false → FinalsClear S
@@ -170,7 +170,7 @@ clear-start S clear t = let r = any-some (subset (S .initial)) (S .finals) t in 
 module _ (S : System) (lawful : Lawful S) (clear : FinalsClear S) where
   -- each step from a configuration of which the invariant holds is right
   pub step-right : (given : Given) → Sound S (given .grow) → (c : Configuration) → Holds S c → Right S (step S given c)
-  unfolding openStep extendStep blockStep closeWith placed staying keep
+  unfolding openStep extendStep blockStep closeWith putAmong staying keep
   step-right given sound c inv = at (step-taken c) inv
     where
       at : {pending : List Pending} {isOpen : Bool} {st : Step} → Taken S given c pending isOpen st → Invariant S (c .table) (c .level) pending
@@ -186,7 +186,7 @@ module _ (S : System) (lawful : Lawful S) (clear : FinalsClear S) where
   -- what holds of a run that works, and of one that has ended
   abbrev Stage : Rooms → ℕ → Next → Type 0
   Stage rooms edition (goesOn c) = Holds S c
-  Stage rooms edition (ends outcome) = RightAnswer S rooms edition outcome
+  Stage rooms edition (ends outcome left) = RightAnswer S rooms edition outcome left
 
   -- a step as the rooms judge it: one that finds no room leaves what was shown before it
   judged-right : (edition : ℕ) {rooms : Rooms} {given : Given} {c : Configuration} {pending : List Pending} {isOpen : Bool} {st : Step} {n : Next}

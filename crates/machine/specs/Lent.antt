@@ -14,6 +14,22 @@ pub record BlockerRoom : Type 0 where
 abbrev pub roomOf : List ℕ → List ℕ → List ℕ → BlockerRoom
 roomOf masks levels entered = record { masks = masks; levels = levels; entered = entered }
 
+-- "word room (pending cases, symbols)"
+pub record WordRoom : Type 0 where
+  pub cases : List ℕ
+  pub symbols : List ℕ
+
+abbrev pub wordRoomOf : List ℕ → List ℕ → WordRoom
+wordRoomOf cases symbols = record { cases = cases; symbols = symbols }
+
+-- "A run is lent blocker room .., word room"
+pub record Lent : Type 0 where
+  pub room : BlockerRoom
+  pub word : WordRoom
+
+abbrev pub lentOf : BlockerRoom → WordRoom → Lent
+lentOf room word = record { room = room; word = word }
+
 -- its tables are of one length
 pub record EvenRoom (room : BlockerRoom) : Type 0 where
   pub levels : length (room .masks) ≡ length (room .levels)
@@ -39,12 +55,12 @@ unstampedRoom masks levels = roomOf masks levels []
 abbrev pub blockersIn : List ℕ → List ℕ → List Blocker
 blockersIn masks levels = blockersFrom (unstampedRoom masks levels) (min (length masks) (length levels)) 0
 
--- the first `count` pending cases, of a table of cases and one of symbols: "the case pending at the highest level in its first place and the lower
--- ones after it, each with the symbol that led to it", so the lowest stands last and comes first here
-unfoldable pub pendingFirst : List ℕ → List ℕ → ℕ → List Pending
-pendingFirst cases symbols zero = []
-pendingFirst cases symbols (suc count) =
-    record { case = getD cases count 0; symbol = getD symbols count 0 } ∷ pendingFirst cases symbols count
+-- the first `count` pending cases: "the case pending at the highest level in its first place and the lower ones after it, each with the symbol that led
+-- to it", so the lowest stands last and comes first here
+unfoldable pub pendingFirst : WordRoom → ℕ → List Pending
+pendingFirst room zero = []
+pendingFirst room (suc count) =
+    record { case = getD (room .cases) count 0; symbol = getD (room .symbols) count 0 } ∷ pendingFirst room count
 
 -- one field of each entry, in order; and from the last entry to the first, as pending cases stand in their tables
 unfoldable pub column : {A : Type 0} → (A → ℕ) → List A → List ℕ
@@ -86,3 +102,21 @@ eachTable change room = record {
 -- the room with these blockers in place of its first `old` ones
 unfoldable pub withTable : ℕ → List Blocker → BlockerRoom → BlockerRoom
 withTable old table = eachTable (λ field before. placed old (column field table) before)
+
+-- the room with these cases pending in place of its first `old` ones
+unfoldable pub withPending : ℕ → List Pending → WordRoom → WordRoom
+withPending old pending room = record {
+  cases = placed old (columnBack caseOf pending) (room .cases);
+  symbols = placed old (columnBack symbolOf pending) (room .symbols);
+}
+
+-- nothing is pending any more, and the word stands from the first place on
+unfoldable pub withWord : ℕ → List ℕ → WordRoom → WordRoom
+withWord old word room = record { cases = placed old [] (room .cases); symbols = placed old word (room .symbols) }
+
+-- every place of both rooms 0
+abbrev pub zeroed : Lent → Lent
+zeroed lent = record {
+  room = eachTable (λ field before. replicate (length before) 0) (lent .room);
+  word = record { cases = replicate (length (lent .word .cases)) 0; symbols = replicate (length (lent .word .symbols)) 0 };
+}

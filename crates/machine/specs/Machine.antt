@@ -246,43 +246,48 @@ pub record Rooms : Type 0 where
   pub blockers : ℕ
   pub word : ℕ
 
--- How a run ends, with the configuration in which it does: a word was found; the frame is the table; or the machine stands still for want of
--- steps, of a place for a blocker, or of a place for a pending case. Edition 2 has one end more: the start is final already, and nothing was done.
+-- How a run ends: a word was found; the frame is the table; or the machine stands still for want of steps, of a place for a blocker, or of a place for a
+-- pending case. Edition 2 has one end more: the start is final already, and nothing was done.
 pub data Outcome : Type 0 where
-  nonempty : List ℕ → Configuration → Outcome
-  empty stepsLack blockersLack wordLacks : Configuration → Outcome
-  startsFinal : Outcome
+  nonempty : List ℕ → Outcome
+  empty stepsLack blockersLack wordLacks startsFinal : Outcome
 
--- what comes of a step where it was made or not: the next configuration, or the run's end
+-- what comes of a step where it was made or not: the run goes on, or how it ends, beside the configuration, "with nothing pending then"
 pub data Next : Type 0 where
   goesOn : Configuration → Next
-  ends : Outcome → Next
+  ends : Outcome → Configuration → Next
 
--- the configuration to which a step comes, or in which a run ends
 abbrev pub comesTo : Next → Configuration
 comesTo (goesOn c) = c
-comesTo (ends (nonempty word c)) = c
-comesTo (ends (empty c)) = c
-comesTo (ends (stepsLack c)) = c
-comesTo (ends (blockersLack c)) = c
-comesTo (ends (wordLacks c)) = c
-comesTo (ends startsFinal) = beginning
+comesTo (ends outcome c) = c
+
+-- c with nothing pending: what a run leaves that stops there
+abbrev pub halted : Configuration → Configuration
+halted c = record {
+  table = c .table;
+  level = c .level;
+  isOpen = c .isOpen;
+  pending = [];
+  steps = c .steps;
+  blocks = c .blocks;
+  accepted = c .accepted;
+}
 
 -- "then the room that the step needs (3 or 4)": an open lacks room where "the level equals the word room"; a block that "finds no place" would
 -- leave more blockers than there are places ("Room is judged after the leaving"). A step without room is not made.
 unfoldable pub judge : Rooms → Configuration → Step → Next
-judge rooms c (opens d) = choose (ltb (c .level) (rooms .word)) (goesOn d) (ends (wordLacks c))
+judge rooms c (opens d) = choose (ltb (c .level) (rooms .word)) (goesOn d) (ends wordLacks (halted c))
 judge rooms c (extends d) = goesOn d
-judge rooms c (blocks d) = choose (leb (length (d .table)) (rooms .blockers)) (goesOn d) (ends (blockersLack c))
+judge rooms c (blocks d) = choose (leb (length (d .table)) (rooms .blockers)) (goesOn d) (ends blockersLack (halted c))
 judge rooms c (closes d) = goesOn d
-judge rooms c (answersNonempty word d) = ends (nonempty word d)
-judge rooms c (answersEmpty d) = ends (empty d)
+judge rooms c (answersNonempty word d) = ends (nonempty word) d
+judge rooms c (answersEmpty d) = ends empty d
 
 -- One call that makes one step: "Before each step the allowance is tested (2), then the room that the step needs (3 or 4)." What has ended stays so.
 unfoldable pub advance : System → Rooms → Given → Next → Next
 advance S rooms given (goesOn c) =
-    let made = judge rooms c (step S given c) in choose (ltb (c .steps) (given .allowance)) made (ends (stepsLack c))
-advance S rooms given (ends outcome) = ends outcome
+    let made = judge rooms c (step S given c) in choose (ltb (c .steps) (given .allowance)) made (ends stepsLack (halted c))
+advance S rooms given (ends outcome c) = ends outcome c
 
 -- a chain of such calls, each given what is its own
 unfoldable pub chain : System → Rooms → Next → List Given → Next
@@ -291,11 +296,11 @@ chain S rooms n (given ∷ later) = chain S rooms (advance S rooms given n) late
 
 -- "answer 1 with the empty word and 0 steps"; 02, 6: "1 answers as now, 2 answers such a start by 5"
 unfoldable pub startAnswer : ℕ → Outcome
-startAnswer edition = choose (eqb edition 2) startsFinal (nonempty [] beginning)
+startAnswer edition = choose (eqb edition 2) startsFinal (nonempty [])
 
 -- "Start: if I is a subset of F, answer .. Otherwise steps follow": one of the final cases contains I
 unfoldable pub start : ℕ → List ℕ → ℕ → Next
-start initial finals edition = choose (any (subset initial) finals) (ends (startAnswer edition)) (goesOn beginning)
+start initial finals edition = choose (any (subset initial) finals) (ends (startAnswer edition) beginning) (goesOn beginning)
 
 abbrev pub begin : System → ℕ → Next
 begin S edition = start (S .initial) (S .finals) edition

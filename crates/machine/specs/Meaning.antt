@@ -8,7 +8,7 @@ use lib.ListN.{length}
 use Rattle.lists.specs.Lists.{_∈_, Each}
 use Rattle.masks.specs.Sets.{subset}
 use Rattle.machine.specs.System.{System}
-use Rattle.machine.specs.Machine.{Blocker, Configuration, Given, Rooms, Step, opens, blocks, step, Next, goesOn, ends, advance, chain, begin}
+use Rattle.machine.specs.Machine.{Blocker, Configuration, Given, Rooms, Step, opens, blocks, step, Next, goesOn, ends, halted, advance, chain, begin}
 use Rattle.machine.specs.Machine.{Outcome, nonempty, empty, stepsLack, blockersLack, wordLacks, startsFinal}
 
 -- the case is a subset of one of the blockers
@@ -37,34 +37,35 @@ pub record NoRoom (S : System) (given : Given) (c : Configuration) (Sort : Confi
   pub full : Full after
 
 -- What is lacking in c where a run ends there without a verdict: "the allowance is used up"; "the next step is a block and finds no place", since it
--- would leave more blockers than there are places; "the next step is an open and the level equals the word room". No step finds the start final.
-abbrev pub Lacks : System → Rooms → Given → Configuration → Outcome → Type 0
-Lacks S rooms given c (nonempty word d) = Unit {0}
-Lacks S rooms given c (empty d) = Unit {0}
-Lacks S rooms given c (stepsLack d) = (d ≡ c) × (given .allowance ≤ c .steps)
-Lacks S rooms given c (blockersLack d) = (d ≡ c) × NoRoom S given c blocks (λ after. rooms .blockers < length (after .table))
-Lacks S rooms given c (wordLacks d) = (d ≡ c) × NoRoom S given c opens (λ after. c .level ≡ rooms .word)
-Lacks S rooms given c startsFinal = ⊥
+-- would leave more blockers than there are places; "the next step is an open and the level equals the word room". Then c is left as it is, but that nothing
+-- is pending. No step finds the start final.
+abbrev pub Lacks : System → Rooms → Given → Configuration → Outcome → Configuration → Type 0
+Lacks S rooms given c (nonempty word) left = Unit {0}
+Lacks S rooms given c empty left = Unit {0}
+Lacks S rooms given c stepsLack left = (left ≡ halted c) × (given .allowance ≤ c .steps)
+Lacks S rooms given c blockersLack left = (left ≡ halted c) × NoRoom S given c blocks (λ after. rooms .blockers < length (after .table))
+Lacks S rooms given c wordLacks left = (left ≡ halted c) × NoRoom S given c opens (λ after. c .level ≡ rooms .word)
+Lacks S rooms given c startsFinal left = ⊥
 
 -- 01's machine, begun in this edition and called so, comes to c and works on; the calls of a run are all given the same
 abbrev pub WorksIn : System → Rooms → ℕ → List Given → Configuration → Type 0
 WorksIn S rooms edition calls c = chain S rooms (begin S edition) calls ≡ goesOn c
 
 -- The call that ended a chain of calls: those before it left the machine working in `at`, and it ended there; those after it changed nothing.
-pub record EndingCall (S : System) (rooms : Rooms) (start : Next) (calls : List Given) (outcome : Outcome) : Type 0 where
+pub record EndingCall (S : System) (rooms : Rooms) (start : Next) (calls : List Given) (outcome : Outcome) (left : Configuration) : Type 0 where
   pub before : List Given
   pub last : Given
   pub later : List Given
   pub at : Configuration
   pub split : calls ≡ before ++ last ∷ later
   pub reached : chain S rooms start before ≡ goesOn at
-  pub ended : advance S rooms last (goesOn at) ≡ ends outcome
+  pub ended : advance S rooms last (goesOn at) ≡ ends outcome left
 
 -- the call that ended a run: each of those before it made a step, and without a verdict this is what it lacked
-pub record EndedBy (S : System) (rooms : Rooms) (edition : ℕ) (calls : List Given) (outcome : Outcome) : Type 0 where
-  pub call : EndingCall S rooms (begin S edition) calls outcome
+pub record EndedBy (S : System) (rooms : Rooms) (edition : ℕ) (calls : List Given) (outcome : Outcome) (left : Configuration) : Type 0 where
+  pub call : EndingCall S rooms (begin S edition) calls outcome left
   pub counted : call .at .steps ≡ length (call .before)
-  pub lacks : Lacks S rooms (call .last) (call .at) outcome
+  pub lacks : Lacks S rooms (call .last) (call .at) outcome left
 
 -- the same with another allowance
 abbrev pub raise : ℕ → Given → Given

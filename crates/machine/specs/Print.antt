@@ -7,7 +7,7 @@ use Rattle.automata.specs.Automaton.{Automaton, automatonOf}
 use Rattle.automata.specs.WordTest.{wordTest}
 use Rattle.automata.specs.Picks.{Event, eventsOf}
 use Rattle.writing.specs.Decimal.{digits}
-use Rattle.writing.specs.Rooms.{Answer, noBytes, placed}
+use Rattle.writing.specs.Rooms.{Answer, noBytes, fittedBytes}
 
 -- 01: "numbers are decimal with one space between, and each line ends in a newline"
 abbrev pub space : ℕ
@@ -35,5 +35,5 @@ printOf A word = startLine (A .initial) ++ eventLines (eventsOf A word)
 -- "the word test's come first; a word not accepted gives 0, a room too short 35": the word test's number where that is not 1, which is the print's success
 unfoldable pub printRun : List ℕ → List ℕ → List ℕ → Answer
 printRun image word room =
-    let print = placed 1 (printOf (automatonOf image) word) room in
+    let print = fittedBytes 1 (printOf (automatonOf image) word) room in
     choose (eqb (wordTest image word) 1) print (noBytes (wordTest image word) room)

@@ -22,10 +22,9 @@ use Rattle.machine.specs.Meaning.{Closed, EnteredInOrder, WorksIn, Ended
 use Rattle.machine.specs.Why.{Reason, byBlocker, byStart, nothing, why, FirstCovering, LowestAbsent}
 use Rattle.machine.specs.Hitting.{withCases, meets, best, growthOf}
 use Rattle.machine.specs.Print.{printOf, printRun}
-use Rattle.machine.specs.Lent.{BlockerRoom, blockersFrom, blockersIn, column, eachTable}
-use Rattle.machine.specs.Runs.{Lent, zeroed, Terms, Result, systemOf, roomsOf, givenOf, resultOf, checkRun, runOf}
-use Rattle.machine.specs.Records.{RunRecord, Stage, configurationOf, after, shown, Called, answering, aloneRecord, beginOf, checkStep, stepOf}
-use Rattle.machine.specs.Records.{stepsFrom, reachedBy, unrefused, givenBy, resultFrom}
+use Rattle.machine.specs.Lent.{BlockerRoom, Lent, zeroed, blockersIn, column, eachTable}
+use Rattle.machine.specs.Runs.{Terms, RunRecord, Stage, systemOf, roomsOf, givenOf, shown, alone, checkRun, runOf}
+use Rattle.machine.specs.Records.{configurationOf, after, Called, answering, beginOf, checkStep, stepOf, stepsFrom, reachedBy, unrefused, givenBy}
 
 -- a symbol of the word is k or above
 pub record HasUnknown (image word : List ℕ) : Type 0 where
@@ -33,63 +32,53 @@ pub record HasUnknown (image word : List ℕ) : Type 0 where
   pub listed : symbol ∈ word
   pub above : symbolsOf image ≤ symbol
 
--- the blockers that a result counts, as they stand in the tables
-abbrev pub heldBy : Result → List Blocker
-heldBy r = blockersFrom (r .tables .room) (r .blockers) 0
-
--- a number alone: the other four are 0, and the lent tables then hold this
-pub record Alone (number : ℕ) (tables-after : Lent) (r : Result) : Type 0 where
-  pub under : r .number ≡ number
-  pub no-steps : r .steps ≡ 0
-  pub no-level : r .level ≡ 0
-  pub no-blockers : r .blockers ≡ 0
-  pub no-hints : r .accepted ≡ 0
-  pub leaves : r .tables ≡ tables-after
-
--- refused: "From 20 up the other four are 0 and no lent place changes."
-abbrev pub Refused : Lent → ℕ → Result → Type 0
-Refused lent number = Alone number lent
+-- the blockers that are held, as they stand in the tables
+abbrev pub heldBy : Stage → List Blocker
+heldBy at = configurationOf at .table
 
 -- "nonempty": the symbol table begins with an accepted word, as long as the level says, and has 0 after it; no accepted word has fewer symbols. In
 -- edition 2 it is not the empty word.
-pub record WordFound (image : List ℕ) (lent : Lent) (edition : ℕ) (r : Result) : Type 0 where
+pub record WordFound (image : List ℕ) (lent : Lent) (edition : ℕ) (r : Stage) : Type 0 where
   pub word : List ℕ
-  pub fits : length word ≤ length (lent .symbols)
-  pub stands : r .tables .symbols ≡ word ++ replicate (length (lent .symbols) - length word) 0
+  pub fits : length word ≤ length (lent .word .symbols)
+  pub stands : r .tables .word .symbols ≡ word ++ replicate (length (lent .word .symbols) - length word) 0
   pub accepted : Accepted (automatonOf image) word
-  pub long : length word ≡ r .level
+  pub long : length word ≡ r .run .level
   pub shortest : (other : List ℕ) → Accepted (automatonOf image) other → length word ≤ length other
   pub some-symbol : edition ≡ 2 → 1 ≤ length word
 
 -- the rules by which a run that was not refused is judged, under its edition
-pub record Rules (image : List ℕ) (lent : Lent) (edition : ℕ) (r : Result) : Type 0 where
+pub record Rules (image : List ℕ) (lent : Lent) (edition : ℕ) (r : Stage) : Type 0 where
   -- ""Nonempty" only with a word accepted by the definition of Chandra, Kozen and Stockmeyer"; "their words are shortest"
-  pub nonempty : r .number ≡ 1 → WordFound image lent edition r
+  pub nonempty : r .run .answer ≡ 1 → WordFound image lent edition r
   -- ""empty" only if no word is accepted, and then with blockers closed under backward steps"
-  pub empty : r .number ≡ 0 → (word : List ℕ) → Accepted (automatonOf image) word → ⊥
-  pub empty-frame : r .number ≡ 0 → Closed (systemOf image) (heldBy r)
+  pub empty : r .run .answer ≡ 0 → (word : List ℕ) → Accepted (automatonOf image) word → ⊥
+  pub empty-frame : r .run .answer ≡ 0 → Closed (systemOf image) (heldBy r)
   -- 02, 6: "a start already final .. 2 answers such a start by 5": exactly if the empty word is accepted; ".. no steps, the rooms all 0"
-  pub starts-final : (r .number ≡ 5) ↔ ((edition ≡ 2) × Accepted (automatonOf image) [])
-  pub starts-final-leaves : r .number ≡ 5 → Alone 5 (zeroed lent) r
+  pub starts-final : (r .run .answer ≡ 5) ↔ ((edition ≡ 2) × Accepted (automatonOf image) [])
+  pub starts-final-leaves : r .run .answer ≡ 5 → r ≡ alone (zeroed lent) 5
   -- 02, 9: "a run that stops at level N, for want of steps or blocker room, has shown that no word shorter than N is accepted"
-  pub stop-shows : (r .number ≡ 2) ⊎ (r .number ≡ 3) → (word : List ℕ) → Accepted (automatonOf image) word → r .level ≤ length word
+  pub stop-shows : (r .run .answer ≡ 2) ⊎ (r .run .answer ≡ 3) → (word : List ℕ) → Accepted (automatonOf image) word → r .run .level ≤ length word
   -- "one that stops at end of tape, none up to the word room's length, that length included"
-  pub word-stop-shows : r .number ≡ 4 → (word : List ℕ) → Accepted (automatonOf image) word → length (lent .cases) < length word
+  pub word-stop-shows : r .run .answer ≡ 4 → (word : List ℕ) → Accepted (automatonOf image) word → length (lent .word .cases) < length word
   -- "Below 20, pending cases are all 0; the symbol table holds .. 0 elsewhere; the blocker room holds the entries in table order, with 0 after them."
-  pub other : r .number ≤ 5
-  pub held-fits : r .blockers ≤ length (lent .room .masks)
-  pub leaves-cases : r .tables .cases ≡ zeroed lent .cases
-  pub leaves-symbols : (r .number ≡ 1 → ⊥) → r .tables .symbols ≡ zeroed lent .symbols
+  pub other : r .run .answer ≤ 5
+  pub held-fits : r .run .held ≤ length (lent .room .masks)
+  pub leaves-cases : r .tables .word .cases ≡ zeroed lent .word .cases
+  pub leaves-symbols : (r .run .answer ≡ 1 → ⊥) → r .tables .word .symbols ≡ zeroed lent .word .symbols
   pub leaves-blockers : r .tables .room
-      ≡ eachTable (λ field before. column field (heldBy r) ++ replicate (length before - r .blockers) 0) (lent .room)
+      ≡ eachTable (λ field before. column field (heldBy r) ++ replicate (length before - r .run .held) 0) (lent .room)
+  -- 02, 8: "until the run ends, with nothing pending then"
+  pub none-pending : r .run .pending ≡ 0
   -- 02, 10: the steps with which its blockers entered rise in table order, from 1 on and up to the steps made
-  pub entered-in-order : EnteredInOrder 0 (r .steps) (heldBy r)
+  pub entered-in-order : EnteredInOrder 0 (r .run .steps) (heldBy r)
 
 -- how a run ended that was called so: at its start, or by the call at which 01's machine answers or lacks steps or room
-pub record RunEnded (image : List ℕ) (lent : Lent) (edition : ℕ) (calls : List Given) (r : Result) : Type 0 where
+pub record RunEnded (image : List ℕ) (lent : Lent) (edition : ℕ) (calls : List Given) (r : Stage) : Type 0 where
   pub outcome : Outcome
-  pub shows : r ≡ resultOf lent (ends outcome)
-  pub how : (begin (systemOf image) edition ≡ ends outcome) ⊎ EndedBy (systemOf image) (roomsOf lent) edition calls outcome
+  pub left : Configuration
+  pub shows : r ≡ shown lent (ends outcome left)
+  pub how : (begin (systemOf image) edition ≡ ends outcome left) ⊎ EndedBy (systemOf image) (roomsOf lent) edition calls outcome left
 
 -- the same terms in another edition
 abbrev pub inEdition : ℕ → Terms → Terms
@@ -104,39 +93,39 @@ abbrev pub Verdict : ℕ → ℕ → Type 0
 Verdict edition number = (number ≤ 1) ⊎ ((edition ≡ 2) × (number ≡ 5))
 
 -- a run that was called so has a verdict, after at most `most` steps, and any larger rooms and allowances give the same result
-pub record Decides (image : List ℕ) (lent : Lent) (edition : ℕ) (calls : List Given) (most : ℕ) (r : Result) : Type 0 where
-  pub verdict : Verdict edition (r .number)
-  pub in-time : r .steps ≤ most
-  pub unbounded : (rooms : Rooms) (raised : List Given) → length (lent .room .masks) ≤ rooms .blockers → length (lent .cases) ≤ rooms .word
-      → Raised calls raised → r ≡ resultOf lent (chain (systemOf image) rooms (begin (systemOf image) edition) raised)
+pub record Decides (image : List ℕ) (lent : Lent) (edition : ℕ) (calls : List Given) (most : ℕ) (r : Stage) : Type 0 where
+  pub verdict : Verdict edition (r .run .answer)
+  pub in-time : r .run .steps ≤ most
+  pub unbounded : (rooms : Rooms) (raised : List Given) → length (lent .room .masks) ≤ rooms .blockers → length (lent .word .cases) ≤ rooms .word
+      → Raised calls raised → r ≡ shown lent (chain (systemOf image) rooms (begin (systemOf image) edition) raised)
 
 -- the promises of one run
-pub record RunPromises (image : List ℕ) (lent : Lent) (terms : Terms) (r : Result) : Type 0 where
+pub record RunPromises (image : List ℕ) (lent : Lent) (terms : Terms) (r : Stage) : Type 0 where
   -- "Every malformed input is refused under its number in document 01, all lent tables untouched."
-  pub refuses : (checkRun image lent terms ≡ 0 → ⊥) → Refused lent (checkRun image lent terms) r
-  pub refuses-image : (Valid image → ⊥) → Refused lent (checkImage image) r
-  pub refuses-only : 20 ≤ r .number → checkRun image lent terms ≡ 0 → ⊥
+  pub refuses : (checkRun image lent terms ≡ 0 → ⊥) → r ≡ alone lent (checkRun image lent terms)
+  pub refuses-image : (Valid image → ⊥) → r ≡ alone lent (checkImage image)
+  pub refuses-only : 20 ≤ r .run .answer → checkRun image lent terms ≡ 0 → ⊥
   -- 02, 6: "an edition other than 1 or 2 gives 36 (unknown edition), after 31": whatever refuses the run in edition 1 and by way 0 comes first
-  pub refuses-edition : (terms .edition ≡ 1 → ⊥) → (terms .edition ≡ 2 → ⊥) → checkRun image lent (inEdition 1 (byWay 0 terms)) ≡ 0 → Refused lent 36 r
-  pub edition-after : (checkRun image lent (inEdition 1 (byWay 0 terms)) ≡ 0 → ⊥) → Refused lent (checkRun image lent (inEdition 1 (byWay 0 terms))) r
+  pub refuses-edition : (terms .edition ≡ 1 → ⊥) → (terms .edition ≡ 2 → ⊥) → checkRun image lent (inEdition 1 (byWay 0 terms)) ≡ 0 → r ≡ alone lent 36
+  pub edition-after : (checkRun image lent (inEdition 1 (byWay 0 terms)) ≡ 0 → ⊥) → r ≡ alone lent (checkRun image lent (inEdition 1 (byWay 0 terms)))
   -- 02, 7: "a way other than 0 or 1 gives 37 (unknown way), after 36": whatever refuses the run by way 0 comes first
-  pub refuses-way : (terms .way ≡ 0 → ⊥) → (terms .way ≡ 1 → ⊥) → checkRun image lent (byWay 0 terms) ≡ 0 → Refused lent 37 r
-  pub way-after : (checkRun image lent (byWay 0 terms) ≡ 0 → ⊥) → Refused lent (checkRun image lent (byWay 0 terms)) r
+  pub refuses-way : (terms .way ≡ 0 → ⊥) → (terms .way ≡ 1 → ⊥) → checkRun image lent (byWay 0 terms) ≡ 0 → r ≡ alone lent 37
+  pub way-after : (checkRun image lent (byWay 0 terms) ≡ 0 → ⊥) → r ≡ alone lent (checkRun image lent (byWay 0 terms))
   pub judged : checkRun image lent terms ≡ 0 → Rules image lent (terms .edition) r
   -- "Any other run stops at the very step where 01's machine lacks steps or room."
   pub ended : checkRun image lent terms ≡ 0 → RunEnded image lent (terms .edition) (callsOf (givenOf image terms)) r
   -- no run makes more steps than it is allowed
-  pub in-allowance : r .steps ≤ terms .allowance
+  pub in-allowance : r .run .steps ≤ terms .allowance
   -- "with n ≤ 16, 2^n places and 4^(n+1) steps every run that is not refused reaches the verdict, with the machine's own count of steps, at most
   -- 4^(n+1)"; n ≤ 16 is what lets 2^n places pass check 31
   pub decides : checkRun image lent terms ≡ 0 → statesOf image ≤ 16 → 2 ^ statesOf image ≤ length (lent .room .masks)
-      → 2 ^ statesOf image ≤ length (lent .cases) → 4 ^ suc (statesOf image) ≤ terms .allowance
+      → 2 ^ statesOf image ≤ length (lent .word .cases) → 4 ^ suc (statesOf image) ≤ terms .allowance
       → Decides image lent (terms .edition) (callsOf (givenOf image terms)) (4 ^ suc (statesOf image)) r
 
 -- 02, 8: the promises of a begin
 pub record BeginPromises (image : List ℕ) (lent : Lent) (terms : Terms) (called : Called) : Type 0 where
   -- "a refused begin gives 0 in the other fields", and no step changes such a record: "a record with an answer above 6 .. gives 33"
-  pub refuses : (checkRun image lent terms ≡ 0 → ⊥) → called ≡ answering (record { tables = lent; run = aloneRecord (checkRun image lent terms) })
+  pub refuses : (checkRun image lent terms ≡ 0 → ⊥) → called ≡ answering (alone lent (checkRun image lent terms))
   pub refused-stays : (checkRun image lent terms ≡ 0 → ⊥) → (steps : List Terms) → stepsFrom image (called .left) steps ≡ called .left
   -- "begin checks the input and makes the start"
   pub begins : checkRun image lent terms ≡ 0 → called ≡ answering (shown lent (begin (systemOf image) (terms .edition)))
@@ -165,9 +154,9 @@ pub record RoomChanged (old new : ℕ) (before after : BlockerRoom) : Type 0 whe
 -- what a call changes in the tables; a word that is found stands in places of pending cases
 pub record Changes (at : Stage) (called : Called) : Type 0 where
   pub room : RoomChanged (at .run .held) (called .left .run .held) (at .tables .room) (called .left .tables .room)
-  pub cases : Changed (at .run .pending) (called .left .run .pending) (at .tables .cases) (called .left .tables .cases)
-  pub symbols : (called .number ≡ 1 → ⊥) → Changed (at .run .pending) (called .left .run .pending) (at .tables .symbols) (called .left .tables .symbols)
-  pub word : called .number ≡ 1 → Changed (at .run .pending) (at .run .pending) (at .tables .symbols) (called .left .tables .symbols)
+  pub cases : Changed (at .run .pending) (called .left .run .pending) (at .tables .word .cases) (called .left .tables .word .cases)
+  pub symbols : (called .number ≡ 1 → ⊥) → Changed (at .run .pending) (called .left .run .pending) (at .tables .word .symbols) (called .left .tables .word .symbols)
+  pub word : called .number ≡ 1 → Changed (at .run .pending) (at .run .pending) (at .tables .word .symbols) (called .left .tables .word .symbols)
 
 -- 02, 8: the promises of one step on whatever stands in record and tables, made by a begin or not
 pub record StepPromises (image : List ℕ) (terms : Terms) (at : Stage) (called : Called) : Type 0 where
@@ -194,22 +183,22 @@ pub record StepsPromises (image : List ℕ) (lent : Lent) (begun : Terms) (steps
   -- "Between calls of a working run the rooms stand as 01's machine has them."
   pub shows : at ≡ shown lent (chain (systemOf image) (roomsOf lent) (begin (systemOf image) (begun .edition)) (givenBy image lent steps))
   -- "The rules judge such a run once its answer is no longer 6, under its begin's edition"; no later step changes what has ended
-  pub judged : (at .run .answer ≡ 6 → ⊥) → Rules image lent (begun .edition) (resultFrom at)
-  pub ended : (at .run .answer ≡ 6 → ⊥) → RunEnded image lent (begun .edition) (givenBy image lent steps) (resultFrom at)
+  pub judged : (at .run .answer ≡ 6 → ⊥) → Rules image lent (begun .edition) at
+  pub ended : (at .run .answer ≡ 6 → ⊥) → RunEnded image lent (begun .edition) (givenBy image lent steps) at
   pub stays : (at .run .answer ≡ 6 → ⊥) → (later : List Terms) → stepsFrom image at later ≡ at
   -- "for the bound, its allowance is the least that a step up to then was given"
   pub decides : (at .run .answer ≡ 6 → ⊥) → statesOf image ≤ 16 → 2 ^ statesOf image ≤ length (lent .room .masks)
-      → 2 ^ statesOf image ≤ length (lent .cases) → Each (λ terms. 4 ^ suc (statesOf image) ≤ terms .allowance) (unrefused image lent steps)
-      → Decides image lent (begun .edition) (givenBy image lent steps) (4 ^ suc (statesOf image)) (resultFrom at)
+      → 2 ^ statesOf image ≤ length (lent .word .cases) → Each (λ terms. 4 ^ suc (statesOf image) ≤ terms .allowance) (unrefused image lent steps)
+      → Decides image lent (begun .edition) (givenBy image lent steps) (4 ^ suc (statesOf image)) at
   -- it works no more after 4^(n+1) steps that are not refused, whatever its rooms and allowances
   pub works-no-more : 4 ^ suc (statesOf image) ≤ length (unrefused image lent steps) → at .run .answer ≡ 6 → ⊥
   -- (what a caller wants to know) while it works it has shown as much as if it were stopped there
   pub working-shows : at .run .answer ≡ 6 → (word : List ℕ) → Accepted (automatonOf image) word → at .run .level ≤ length word
 
 -- a run that was begun in this edition, at once or step by step, and its result
-pub data RunBy (image : List ℕ) (lent : Lent) : ℕ → Result → Type 0 where
+pub data RunBy (image : List ℕ) (lent : Lent) : ℕ → Stage → Type 0 where
   atOnce : (terms : Terms) → RunBy image lent (terms .edition) (runOf image lent terms)
-  bySteps : (begun : Terms) (steps : List Terms) → RunBy image lent (begun .edition) (resultFrom (reachedBy image lent begun steps))
+  bySteps : (begun : Terms) (steps : List Terms) → RunBy image lent (begun .edition) (reachedBy image lent begun steps)
 
 -- 02, 2: the promises of the answer why a case X is blocked at level i
 pub record WhyPromises (initial : ℕ) (table : List Blocker) (i X : ℕ) (answer : Reason) : Type 0 where
@@ -259,9 +248,9 @@ pub record PrintPromises (image word room : List ℕ) (answer : Answer) : Type 0
   pub all-pick : Valid image → Accepted (automatonOf image) word → AllPick (automatonOf image) (finalOf image) (initialOf image) word
 
 -- two runs that reached a verdict: the same one, and words of the same length
-pub record Agreed (r s : Result) : Type 0 where
-  pub verdict : r .number ≡ s .number
-  pub words : r .number ≡ 1 → r .level ≡ s .level
+pub record Agreed (r s : Stage) : Type 0 where
+  pub verdict : r .run .answer ≡ s .run .answer
+  pub words : r .run .answer ≡ 1 → r .run .level ≡ s .run .level
 
 pub record Promises : Type 0 where
   -- "Every malformed input is refused under its number": the image reader, which then leaves what it was lent for the head
@@ -289,11 +278,11 @@ pub record Promises : Type 0 where
       → StepsPromises image lent begun steps (reachedBy image lent begun steps)
   -- "The former run must equal begin, then steps."
   pub run-is-steps : (image : List ℕ) (lent : Lent) (terms : Terms)
-      → runOf image lent terms ≡ resultFrom (reachedBy image lent terms (replicate (suc (terms .allowance)) terms))
+      → runOf image lent terms ≡ reachedBy image lent terms (replicate (suc (terms .allowance)) terms)
   -- "Whatever hints, rooms and allowances, two runs on one valid automaton that reach a verdict agree", within one edition; 02, 7: "The two-run rule ..
   -- both ways, mixed too"; 02, 8: at once or step by step
-  pub runs-agree : (image other : List ℕ) (lent lent′ : Lent) (edition : ℕ) (r s : Result) → HoldOne image other → RunBy image lent edition r
-      → RunBy other lent′ edition s → Verdict edition (r .number) → Verdict edition (s .number) → Agreed r s
+  pub runs-agree : (image other : List ℕ) (lent lent′ : Lent) (edition : ℕ) (r s : Stage) → HoldOne image other → RunBy image lent edition r
+      → RunBy other lent′ edition s → Verdict edition (r .run .answer) → Verdict edition (s .run .answer) → Agreed r s
   -- 02, 6: "1 answers as now, 2 answers such a start by 5": on any other start the two editions are one
   pub editions-agree : (image : List ℕ) (lent : Lent) (terms : Terms) → (Accepted (automatonOf image) [] → ⊥)
       → runOf image lent (inEdition 1 terms) ≡ runOf image lent (inEdition 2 terms)

@@ -1,33 +1,15 @@
--- 02, 8: begin, then one step at a time. The run's record with the tables lent beside it, the configuration of 01's machine that they stand for, what a begin
--- and a step make of them for every input, and steps one after the other. Assumes nothing: these are definitions.
+-- 02, 8: begin, then one step at a time. The configuration of 01's machine that record and tables stand for, what a begin and a step make of them for every
+-- input, and steps one after the other. Assumes nothing: these are definitions.
 use Prim.Native.Nat.{ℕ, zero, suc}
-use mathlib.Core.Bool.{Bool, false}
+use mathlib.Core.Bool.{Bool}
 use mathlib.Core.List.{List, [], _∷_, map}
 use lib.Dec.{eqb, ltb}
-use lib.ListN.{length}
 use Rattle.lists.specs.Tests.{_or_, choose}
 use Rattle.lists.specs.Lists.{keep}
 use Rattle.automata.specs.Image.{check}
-use Rattle.machine.specs.Machine.{Configuration, Given, Rooms, Next, goesOn, ends, comesTo, advance, begin}
-use Rattle.machine.specs.Lent.{blockersFrom, pendingFirst}
-use Rattle.machine.specs.Runs.{Lent, zeroed, Terms, Result, systemOf, givenOf, roomsOf, numberOf, tablesAfter, checkRun}
-
--- "The run's record (answer, steps, level, whether the level is open, blockers held, pending, blocks made, hints accepted)". Of the blocker room the first
--- `held` places are in use, of the word room the first `pending`.
-pub record RunRecord : Type 0 where
-  pub answer : ℕ
-  pub steps : ℕ
-  pub level : ℕ
-  pub isOpen : Bool
-  pub held : ℕ
-  pub pending : ℕ
-  pub blocks : ℕ
-  pub accepted : ℕ
-
--- the tables and the record, as they stand between two calls
-pub record Stage : Type 0 where
-  pub tables : Lent
-  pub run : RunRecord
+use Rattle.machine.specs.Machine.{Configuration, Given, Rooms, Next, goesOn, advance, begin}
+use Rattle.machine.specs.Lent.{Lent, zeroed, blockersFrom, pendingFirst}
+use Rattle.machine.specs.Runs.{Terms, RunRecord, Stage, systemOf, givenOf, roomsOf, recordOf, tablesAfter, alone, checkRun}
 
 -- the configuration that they stand for: "the places in use as they stand"
 abbrev pub configurationOf : Stage → Configuration
@@ -35,38 +17,16 @@ configurationOf at = record {
   table = blockersFrom (at .tables .room) (at .run .held) 0;
   level = at .run .level;
   isOpen = at .run .isOpen;
-  pending = pendingFirst (at .tables .cases) (at .tables .symbols) (at .run .pending);
+  pending = pendingFirst (at .tables .word) (at .run .pending);
   steps = at .run .steps;
   blocks = at .run .blocks;
   accepted = at .run .accepted;
-}
-
--- "The answer is 6 (working) until the run ends, with nothing pending then"
-unfoldable pub pendingOf : Next → ℕ
-pendingOf (goesOn c) = length (c .pending)
-pendingOf (ends outcome) = 0
-
--- the record where the machine has come to n
-unfoldable pub recordOf : Next → RunRecord
-recordOf n = record {
-  answer = numberOf n;
-  steps = comesTo n .steps;
-  level = comesTo n .level;
-  isOpen = comesTo n .isOpen;
-  held = length (comesTo n .table);
-  pending = pendingOf n;
-  blocks = comesTo n .blocks;
-  accepted = comesTo n .accepted;
 }
 
 -- What a step leaves where the machine has come to n: its record, and in the tables the places in use after it, 0 in each place that became free; "the rest
 -- stay".
 unfoldable pub after : Stage → Next → Stage
 after before n = record { tables = tablesAfter (before .run .held) (before .run .pending) (before .tables) n; run = recordOf n }
-
--- what stands in tables and record where a run has come to n: every place was written
-abbrev pub shown : Lent → Next → Stage
-shown lent n = record { tables = tablesAfter (length (lent .room .masks)) (length (lent .cases)) lent n; run = recordOf n }
 
 -- one step of a record that works, given this: "the machine's step for the places in use"
 unfoldable pub workingStep : List ℕ → Given → Stage → Stage
@@ -81,14 +41,11 @@ pub record Called : Type 0 where
 abbrev pub answering : Stage → Called
 answering at = record { number = at .run .answer; left = at }
 
--- "a refused begin gives 0 in the other fields"
-abbrev pub aloneRecord : ℕ → RunRecord
-aloneRecord number = record { answer = number; steps = 0; level = 0; isOpen = false; held = 0; pending = 0; blocks = 0; accepted = 0 }
-
--- "begin checks the input and makes the start": 01's machine as it begins, in tables that hold 0. A begin is given no allowance: its terms' is not looked at.
+-- "begin checks the input and makes the start": 01's machine as it begins, in tables that hold 0; "a refused begin gives 0 in the other fields". A begin is
+-- given no allowance: its terms' is not looked at.
 unfoldable pub beginWith : List ℕ → Lent → ℕ → ℕ → Called
 beginWith image lent edition zero = answering (record { tables = zeroed lent; run = recordOf (begin (systemOf image) edition) })
-beginWith image lent edition (suc number) = answering (record { tables = lent; run = aloneRecord (suc number) })
+beginWith image lent edition (suc number) = answering (alone lent (suc number))
 
 unfoldable pub beginOf : List ℕ → Lent → Terms → Called
 beginOf image lent terms = beginWith image lent (terms .edition) (checkRun image lent terms)
@@ -132,14 +89,3 @@ unrefused image lent steps = keep (λ terms. eqb (checkRun image lent terms) 0) 
 
 abbrev pub givenBy : List ℕ → Lent → List Terms → List Given
 givenBy image lent steps = map (givenOf image) (unrefused image lent steps)
-
--- a run's five numbers and its tables, read from what stands there
-abbrev pub resultFrom : Stage → Result
-resultFrom at = record {
-  number = at .run .answer;
-  steps = at .run .steps;
-  level = at .run .level;
-  blockers = at .run .held;
-  accepted = at .run .accepted;
-  tables = at .tables;
-}

@@ -4,8 +4,8 @@ use Prim.Native.Nat.{ℕ}
 use mathlib.Core.Path.{_≡_}
 use mathlib.Core.List.{List, [], _∷_}
 use Rattle.automata.specs.WordTest.{wordTest}
-use Rattle.machine.specs.Lent.{BlockerRoom, roomOf}
-use Rattle.machine.specs.Runs.{Lent, Terms, Result, runOf}
+use Rattle.machine.specs.Lent.{BlockerRoom, roomOf, wordRoomOf, Lent}
+use Rattle.machine.specs.Runs.{Terms, Stage, fiveNumbers, runOf}
 
 -- the bytes of small numbers in front of more bytes: 8 bytes, a pair, a row
 abbrev eight : ℕ → List ℕ → List ℕ
@@ -33,14 +33,22 @@ C = 3 ∷ 2 ∷ 3 ∷ 0 ∷ eight 1 (eight 0 (pair 36 9 (pair 45 18 (row 0 6 (ro
 abbrev D : List ℕ
 D = 1 ∷ 1 ∷ 0 ∷ 0 ∷ eight 0 (eight 0 (pair 28 0 []))
 
+-- what a run gives: the five numbers, and the lent tables
+pub record Gives : Type 0 where
+  pub numbers : List ℕ
+  pub tables : Lent
+
+abbrev pub givenBack : Stage → Gives
+givenBack left = record { numbers = fiveNumbers (left .run); tables = left .tables }
+
 -- a run with what it is lent and what it gives, or a word test with its number
 pub data Line : Type 0 where
-  run : (image : List ℕ) (lent : Lent) (terms : Terms) → Result → Line
+  run : (image : List ℕ) (lent : Lent) (terms : Terms) → Gives → Line
   test : (image word : List ℕ) → ℕ → Line
 
 -- tables that are lent, with other numbers in them
 abbrev lent : List ℕ → List ℕ → Lent
-lent blockers word = record { room = roomOf blockers blockers blockers; cases = word; symbols = word }
+lent blockers word = record { room = roomOf blockers blockers blockers; word = wordRoomOf word word }
 
 -- hints and an allowance, 256 where the line names none, 4^(n+1) for n 3; edition 1 and way 0, which are as 01 has it
 abbrev terms : List ℕ → ℕ → Terms
@@ -62,15 +70,10 @@ noBlockers = roomOf none none none
 abbrev noPlaces : BlockerRoom
 noPlaces = roomOf [] [] []
 
--- the five numbers, and the five tables
-abbrev gives : ℕ → ℕ → ℕ → ℕ → ℕ → BlockerRoom → List ℕ → List ℕ → Result
+abbrev gives : ℕ → ℕ → ℕ → ℕ → ℕ → BlockerRoom → List ℕ → List ℕ → Gives
 gives number steps level blockers accepted room cases symbols = record {
-  number = number;
-  steps = steps;
-  level = level;
-  blockers = blockers;
-  accepted = accepted;
-  tables = record { room = room; cases = cases; symbols = symbols };
+  numbers = number ∷ steps ∷ level ∷ blockers ∷ accepted ∷ [];
+  tables = record { room = room; word = wordRoomOf cases symbols };
 }
 
 unfoldable pub starred : List Line
@@ -106,7 +109,7 @@ starred =
 
 -- the line says what the definitions give
 unfoldable pub Right : Line → Type 0
-Right (run image tables given result) = runOf image tables given ≡ result
+Right (run image tables given result) = givenBack (runOf image tables given) ≡ result
 Right (test image word number) = wordTest image word ≡ number
 
 -- every line does

@@ -13,13 +13,13 @@ ghost use Rattle.masks.specs.Sets.{within};
 ghost use Rattle.automata.specs.Image.{statesOf};
 ghost use Rattle.automata.specs.Answers.{ReadAs};
 ghost use Rattle.machine.specs.Machine.{settled as isSettled, passes as passesTest, withState, byStates};
-ghost use Rattle.machine.specs.Lent.{blockersIn};
+ghost use Rattle.machine.specs.Lending.{blockersBefore};
 ghost use Rattle.machine.specs.Runs.{systemOf};
 ghost use Rattle.passing.specs.Grown.{allSettled, Grown};
 
 // Whether p, a backward set of y, is inside y or blocked one level below.
 fn settled(initial: u64, masks: &[u64], levels: &[u32], below: Level, y: u64, p: u64) -> bool
-    ensures { λ r. ⌜ r ≡ isSettled initial (blockersIn (now (masks .entry)) (now (levels .entry))) (below .0) y p ⌝ }
+    ensures { λ r. ⌜ r ≡ isSettled initial (blockersBefore masks levels) (below .0) y p ⌝ }
 {
     if masks::subset(p, y) {
         return true;
@@ -37,7 +37,7 @@ fn all_settled(
     y: u64,
 ) -> bool
     requires { ⌜ ReadAs (now image) head ⌝ }
-    ensures { λ r. ⌜ r ≡ allSettled (now (image .entry)) (blockersIn (now (masks .entry)) (now (levels .entry))) (below .0) y ⌝ }
+    ensures { λ r. ⌜ r ≡ allSettled (now (image .entry)) (blockersBefore masks levels) (below .0) y ⌝ }
 {
     let mut symbol = Symbol(0);
     while symbol.0 < head.symbols {
@@ -61,7 +61,7 @@ pub fn passes(
     y: u64,
 ) -> bool
     requires { ⌜ ReadAs (now image) head ⌝ }
-    ensures { λ r. ⌜ r ≡ passesTest (systemOf (now (image .entry))) (blockersIn (now (masks .entry)) (now (levels .entry))) (below .0) x y ⌝ }
+    ensures { λ r. ⌜ r ≡ passesTest (systemOf (now (image .entry))) (blockersBefore masks levels) (below .0) x y ⌝ }
 {
     if !masks::subset(x, y) {
         return false;
@@ -88,7 +88,7 @@ fn with_state(
     y: u64,
 ) -> u64
     requires { ⌜ ReadAs (now image) head × (q .0 < statesOf (now image)) × Grown (now image) x y ⌝ }
-    ensures { λ r. ⌜ r ≡ withState (systemOf (now (image .entry))) (blockersIn (now (masks .entry)) (now (levels .entry))) (below .0) x (q .0) y ⌝ }
+    ensures { λ r. ⌜ r ≡ withState (systemOf (now (image .entry))) (blockersBefore masks levels) (below .0) x (q .0) y ⌝ }
 {
     if masks::member(q, x) {
         return y;
@@ -106,7 +106,7 @@ fn with_state(
 // The set that x grows to by its states, as what blocks it one level above `below`: each is tried with all backward sets.
 pub fn by_each(image: &[u8], head: Head, masks: &[u64], levels: &[u32], below: Level, x: u64) -> u64
     requires { ⌜ ReadAs (now image) head × T (within (statesOf (now image)) x) ⌝ }
-    ensures { λ r. ⌜ r ≡ byStates (systemOf (now (image .entry))) (blockersIn (now (masks .entry)) (now (levels .entry))) (below .0) x ⌝ }
+    ensures { λ r. ⌜ r ≡ byStates (systemOf (now (image .entry))) (blockersBefore masks levels) (below .0) x ⌝ }
 {
     let mut y = x;
     let mut q = State(0);

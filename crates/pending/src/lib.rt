@@ -6,13 +6,15 @@ ghost use Prim.Native.Nat.{_+_, _-_, _≤_};
 ghost use mathlib.Core.List.{[], _∷_};
 ghost use lib.ListN.{length};
 ghost use Rattle.machine.specs.Machine.{wordOf};
-ghost use Rattle.machine.specs.Lent.{pendingFirst, placed};
-ghost use Rattle.pending.specs.Room.{Holds, Placed, Written, turned};
+ghost use Rattle.machine.specs.Lent.{pendingFirst, placed, withPending, withWord};
+ghost use Rattle.machine.specs.Lending.{wordNow, wordBefore, wordAfter};
+ghost use Rattle.pending.specs.Room.{Holds};
 
 // One more pending case, below the others, with the symbol that led to it.
 pub fn push(cases: &mut [u64], symbols: &mut [u8], count: usize, case: u64, symbol: Symbol)
-    requires { ⌜ Holds (count + 1) (now cases) (now symbols) ⌝ }
-    ensures { λ _. ⌜ Placed count (record { case = case; symbol = symbol .0 } ∷ pendingFirst (now (cases .entry)) (now (symbols .entry)) count) (now (cases .entry)) (now (symbols .entry)) (now (cases .exit)) (now (symbols .exit)) ⌝ }
+    requires { ⌜ Holds (count + 1) (wordNow cases symbols) ⌝ }
+    ensures { λ _. ⌜ wordAfter cases symbols ≡ withPending count (record { case = case; symbol = symbol .0 } ∷ pendingFirst (wordBefore cases symbols) count)
+        (wordBefore cases symbols) ⌝ }
 {
     cases[count] = case;
     symbols[count] = symbol.0;
@@ -20,17 +22,17 @@ pub fn push(cases: &mut [u64], symbols: &mut [u8], count: usize, case: u64, symb
 
 // The pending case of the lowest level leaves. Its places become 0, so that nothing of it is left in the tables.
 pub fn pop(cases: &mut [u64], symbols: &mut [u8], count: usize)
-    requires { ⌜ Holds count (now cases) (now symbols) × (1 ≤ count) ⌝ }
-    ensures { λ _. ⌜ Placed count (pendingFirst (now (cases .entry)) (now (symbols .entry)) (count - 1)) (now (cases .entry)) (now (symbols .entry)) (now (cases .exit)) (now (symbols .exit)) ⌝ }
+    requires { ⌜ Holds count (wordNow cases symbols) × (1 ≤ count) ⌝ }
+    ensures { λ _. ⌜ wordAfter cases symbols ≡ withPending count (pendingFirst (wordBefore cases symbols) (count - 1)) (wordBefore cases symbols) ⌝ }
 {
     cases[count - 1] = 0;
     symbols[count - 1] = 0;
 }
 
 // Nothing is pending any more.
-pub fn clear(cases: &mut [u64], symbols: &mut [u8], count: usize)
-    requires { ⌜ Holds count (now cases) (now symbols) ⌝ }
-    ensures { λ _. ⌜ Placed count [] (now (cases .entry)) (now (symbols .entry)) (now (cases .exit)) (now (symbols .exit)) ⌝ }
+pub fn clear_first(cases: &mut [u64], symbols: &mut [u8], count: usize)
+    requires { ⌜ Holds count (wordNow cases symbols) ⌝ }
+    ensures { λ _. ⌜ wordAfter cases symbols ≡ withWord count [] (wordBefore cases symbols) ⌝ }
 {
     let mut at: usize = 0;
     while at < count {
@@ -52,29 +54,13 @@ fn clear_cases(cases: &mut [u64], count: usize)
     }
 }
 
-// The places from `from` up to `to` in the other direction.
-fn turn(symbols: &mut [u8], from: usize, to: usize)
-    requires { ⌜ (from ≤ to) × (to ≤ length (now symbols)) ⌝ }
-    ensures { λ _. ⌜ now (symbols .exit) ≡ turned from to (now (symbols .entry)) ⌝ }
-{
-    let mut low = from;
-    let mut high = to;
-    while low + 1 < high {
-        high -= 1;
-        let first = symbols[low];
-        symbols[low] = symbols[high];
-        symbols[high] = first;
-        low += 1;
-    }
-}
-
 // The word: the given symbol, then the symbols that led to the pending cases from the lowest level up. The symbols stand highest level first, and
 // none led to the case in the first place: so the given symbol takes that place, and those behind it are turned round.
 pub fn write_word(cases: &mut [u64], symbols: &mut [u8], count: usize, symbol: Symbol)
-    requires { ⌜ Holds count (now cases) (now symbols) × (1 ≤ count) ⌝ }
-    ensures { λ _. ⌜ Written count (symbol .0 ∷ wordOf (pendingFirst (now (cases .entry)) (now (symbols .entry)) count)) (now (cases .entry)) (now (symbols .entry)) (now (cases .exit)) (now (symbols .exit)) ⌝ }
+    requires { ⌜ Holds count (wordNow cases symbols) × (1 ≤ count) ⌝ }
+    ensures { λ _. ⌜ wordAfter cases symbols ≡ withWord count (symbol .0 ∷ wordOf (pendingFirst (wordBefore cases symbols) count)) (wordBefore cases symbols) ⌝ }
 {
     clear_cases(cases, count);
     symbols[0] = symbol.0;
-    turn(symbols, 1, count);
+    bytes::reverse(symbols, 1, count);
 }

@@ -15,8 +15,8 @@ use Rattle.automata.specs.declared.image.Head.{Head}
 use Rattle.automata.specs.declared.image.Image.{Image}
 use Rattle.automata.specs.declared.image.Image.the-variants as Read
 use Rattle.automata.proofs.WordTests.{word-of-tested, test-refused, refused-high}
-use Rattle.writing.specs.Rooms.{Answer, noBytes, placed}
-use Rattle.writing.proofs.Placing.{placed-fits, placed-short}
+use Rattle.writing.specs.Rooms.{Answer, noBytes, fittedBytes}
+use Rattle.writing.proofs.Placing.{bytes-fit, bytes-short}
 use Rattle.machine.specs.Print.{startLine, eventLines, printOf, printRun}
 use Rattle.machine.proofs.Printing.{not-printed, is-printed}
 use Rattle.printing.specs.Steps.{casesOf, Ready}
@@ -47,15 +47,15 @@ module _ (image word : List ℕ) (head : Head) (eh : head ≡ headOf image) (lim
 
 -- bytes that were counted, and then written if they fit
 module _ (bytes room : List ℕ) (size : ℕ) (before after : List ℕ) (counted : Puts bytes 0 (length room) size before after) where
-  pub print-short : length room < size → record { number = 35; written = 0; room = room } ≡ placed 1 bytes room
+  pub print-short : length room < size → record { number = 35; written = 0; room = room } ≡ fittedBytes 1 bytes room
   unfolding noBytes
-  print-short h = sym (placed-short 1 bytes room (omega (arith, counted .counted)))
+  print-short h = sym (bytes-short 1 bytes room (omega (arith, counted .counted)))
 
   pub print-fits : (again : ℕ) (room′ : List ℕ) → size ≤ length room → Puts bytes 0 (length room) again room room′
-      → record { number = 1; written = size; room = room′ } ≡ placed 1 bytes room
+      → record { number = 1; written = size; room = room′ } ≡ fittedBytes 1 bytes room
   print-fits again room′ h p =
       ap (λ (n : ℕ). record { number = 1; written = n; room = room′ }) long
-      ∙ placed-fits 1 bytes room room′ (omega (arith, long)) (p .written (omega (arith, p .counted, long)))
+      ∙ bytes-fit 1 bytes room room′ (omega (arith, long)) (p .written (omega (arith, p .counted, long)))
     where
       long : size ≡ length bytes
       long = omega (arith, counted .counted)
@@ -75,7 +75,7 @@ module _ (image word room : List ℕ) (known : WordOf image word) (accepted : Bo
   unfolding oneIf
   print-rejected t = nothing-printed image word room 0 (sym (tested ∙ ap oneIf (not-true accepted t))) (λ e. omega arith)
 
-  pub print-accepted : (answer : Answer) → not accepted ≡ false → answer ≡ placed 1 (printOf (automatonOf image) word) room → answer ≡ printRun image word room
+  pub print-accepted : (answer : Answer) → not accepted ≡ false → answer ≡ fittedBytes 1 (printOf (automatonOf image) word) room → answer ≡ printRun image word room
   unfolding oneIf
   print-accepted answer t e = e ∙ sym (is-printed image word room (tested ∙ ap oneIf (not-false accepted t)))
 

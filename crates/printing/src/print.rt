@@ -19,7 +19,7 @@ ghost use Rattle.automata.specs.Automaton.{automatonOf};
 ghost use Rattle.automata.specs.WordTest.{WordOf};
 ghost use Rattle.automata.specs.Picks.{eventsOver};
 ghost use Rattle.automata.specs.Answers.{headOf};
-ghost use Rattle.writing.specs.Rooms.{answerOf, placed};
+ghost use Rattle.writing.specs.Rooms.{answerOf, fittedBytes};
 ghost use Rattle.machine.specs.Print.{startLine, eventLine, eventLines, printOf, printRun};
 ghost use Rattle.printing.specs.Steps.{Ready};
 ghost use Rattle.printing.specs.Putting.{eventsIn, Puts, PutsEvents};
@@ -82,7 +82,8 @@ fn put_events(
     limit: usize,
 ) -> Put
     requires { ⌜ WordOf (now image) (now word) × (0 < length (now table)) × (limit < 2 ^ 63) ⌝ }
-    ensures { λ r. ⌜ PutsEvents (eventsOver (automatonOf (now (image .entry))) z x (now (word .entry))) x start limit (r .end) (r .case) (now (room .entry)) (now (room .exit)) ⌝ }
+    ensures { λ r. ⌜ PutsEvents (eventsOver (automatonOf (now (image .entry))) z x (now (word .entry)))
+        x start limit (r .end) (r .case) (now (room .entry)) (now (room .exit)) ⌝ }
 {
     if word.len() <= table.len() {
         fill(image, word, z, table);
@@ -114,7 +115,8 @@ fn put_run(
     room: &mut [u8],
     limit: usize,
 ) -> usize
-    requires { ⌜ WordOf (now image) (now word) × (head ≡ headOf (now image)) × (0 < length (now table)) × (limit < 2 ^ 63) × Ready (now image) (now word) (now table) ⌝ }
+    requires { ⌜ WordOf (now image) (now word) × (head ≡ headOf (now image)) × (0 < length (now table)) × (limit < 2 ^ 63)
+        × Ready (now image) (now word) (now table) ⌝ }
     ensures bytes { λ r. ⌜ Puts (printOf (automatonOf (now (image .entry))) (now (word .entry))) 0 limit r (now (room .entry)) (now (room .exit)) ⌝ }
     ensures ready { λ r. ⌜ Ready (now (image .entry)) (now (word .entry)) (now (table .exit)) ⌝ }
 {
@@ -143,7 +145,7 @@ fn print_accepted(
     room: &mut [u8],
 ) -> Written
     requires { ⌜ WordOf (now image) (now word) × (head ≡ headOf (now image)) × (0 < length (now table)) × Ready (now image) (now word) (now table) ⌝ }
-    ensures { λ r. ⌜ answerOf r (now (room .exit)) ≡ placed 1 (printOf (automatonOf (now (image .entry))) (now (word .entry))) (now (room .entry)) ⌝ }
+    ensures { λ r. ⌜ answerOf r (now (room .exit)) ≡ fittedBytes 1 (printOf (automatonOf (now (image .entry))) (now (word .entry))) (now (room .entry)) ⌝ }
 {
     let mut nowhere = [0u8; 0];
     let length = put_run(image, word, head, table, &mut nowhere, room.len());

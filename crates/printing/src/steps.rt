@@ -18,7 +18,8 @@ ghost use Rattle.printing.specs.Steps.{setsBehind, eventsBy, casesOf, ca
 pub(crate) fn fill(image: &[u8], word: &[u8], z: u64, table: &mut [u64]) -> u64
     requires { ⌜ WordOf (now image) (now word) × (length (now word) ≤ length (now table)) ⌝ }
     ensures back { λ r. ⌜ r ≡ takenBack (automatonOf (now (image .entry))) (now (word .entry)) z ⌝ }
-    ensures sets { λ r. ⌜ now (table .exit) ≡ setsBehind (automatonOf (now (image .entry))) z (now (word .entry)) ++ drop (length (now (word .entry))) (now (table .entry)) ⌝ }
+    ensures sets { λ r. ⌜ now (table .exit) ≡ setsBehind (automatonOf (now (image .entry))) z (now (word .entry))
+        ++ drop (length (now (word .entry))) (now (table .entry)) ⌝ }
 {
     let mut case = z;
     let mut i = word.len();
@@ -34,7 +35,8 @@ pub(crate) fn fill(image: &[u8], word: &[u8], z: u64, table: &mut [u64]) -> u64
 pub(crate) fn step_through(image: &[u8], word: &[u8], x: u64, table: &mut [u64]) -> u64
     requires { ⌜ WordOf (now image) (now word) × (length (now word) ≤ length (now table)) ⌝ }
     ensures last { λ r. ⌜ r ≡ caseAfter x (eventsBy (automatonOf (now (image .entry))) x (now (word .entry)) (now (table .entry))) ⌝ }
-    ensures cases { λ r. ⌜ now (table .exit) ≡ casesOf (eventsBy (automatonOf (now (image .entry))) x (now (word .entry)) (now (table .entry))) ++ drop (length (now (word .entry))) (now (table .entry)) ⌝ }
+    ensures cases { λ r. ⌜ now (table .exit) ≡ casesOf (eventsBy (automatonOf (now (image .entry))) x (now (word .entry)) (now (table .entry)))
+        ++ drop (length (now (word .entry))) (now (table .entry)) ⌝ }
 {
     let mut case = x;
     let mut i: usize = 0;

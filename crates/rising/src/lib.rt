@@ -10,7 +10,8 @@ ghost use Prim.Native.Nat.{_<_};
 ghost use lib.ListN.{length};
 ghost use Rattle.automata.specs.Answers.{ReadAs};
 ghost use Rattle.machine.specs.Machine.{rises as risesTest};
-ghost use Rattle.machine.specs.Lent.{roomOf, blockerAt, unstampedRoom, blockersIn};
+ghost use Rattle.machine.specs.Lent.{blockerAt};
+ghost use Rattle.machine.specs.Lending.{unstampedBefore, roomNow, roomBefore, roomAfter, blockersBefore};
 ghost use Rattle.machine.specs.Runs.{systemOf};
 ghost use Rattle.blockers.specs.Room.{HoldsRoom, tableOf};
 ghost use Rattle.rising.specs.Risen.{risenAt, risenBy, Becomes};
@@ -25,8 +26,8 @@ fn rises(
     place: usize,
 ) -> bool
     requires { ⌜ ReadAs (now image) head × (length (now masks) ≡ length (now levels)) × (place < length (now masks)) ⌝ }
-    ensures { λ r. ⌜ r ≡ risesTest (systemOf (now (image .entry))) (blockersIn (now (masks .entry)) (now (levels .entry))) (level .0)
-        (blockerAt (unstampedRoom (now (masks .entry)) (now (levels .entry))) place) ⌝ }
+    ensures { λ r. ⌜ r ≡ risesTest (systemOf (now (image .entry))) (blockersBefore masks levels) (level .0)
+        (blockerAt (unstampedBefore masks levels) place) ⌝ }
 {
     if !Level(levels[place]).equals(level) {
         return false;
@@ -54,9 +55,9 @@ fn rise_level(
     held: usize,
     level: Level,
 ) -> usize
-    requires { ⌜ ReadAs (now image) head × HoldsRoom held (roomOf (now masks) (now levels) (now entered)) × (level .0 < 4294967295) ⌝ }
-    ensures { λ r. ⌜ Becomes held (risenAt (systemOf (now (image .entry))) (level .0) (tableOf held (roomOf (now (masks .entry)) (now (levels .entry)) (now (entered .entry)))))
-        (roomOf (now (masks .entry)) (now (levels .entry)) (now (entered .entry))) r (roomOf (now (masks .exit)) (now (levels .exit)) (now (entered .exit))) ⌝ }
+    requires { ⌜ ReadAs (now image) head × HoldsRoom held (roomNow masks levels entered) × (level .0 < 4294967295) ⌝ }
+    ensures { λ r. ⌜ Becomes held (risenAt (systemOf (now (image .entry))) (level .0) (tableOf held (roomBefore masks levels entered)))
+        (roomBefore masks levels entered) r (roomAfter masks levels entered) ⌝ }
 {
     let mut count = held;
     let mut place: usize = 0;
@@ -82,9 +83,9 @@ pub fn rise_levels(
     held: usize,
     top: Level,
 ) -> usize
-    requires { ⌜ ReadAs (now image) head × HoldsRoom held (roomOf (now masks) (now levels) (now entered)) × (top .0 < 4294967295) ⌝ }
-    ensures { λ r. ⌜ Becomes held (risenBy (systemOf (now (image .entry))) (top .0) (tableOf held (roomOf (now (masks .entry)) (now (levels .entry)) (now (entered .entry)))))
-        (roomOf (now (masks .entry)) (now (levels .entry)) (now (entered .entry))) r (roomOf (now (masks .exit)) (now (levels .exit)) (now (entered .exit))) ⌝ }
+    requires { ⌜ ReadAs (now image) head × HoldsRoom held (roomNow masks levels entered) × (top .0 < 4294967295) ⌝ }
+    ensures { λ r. ⌜ Becomes held (risenBy (systemOf (now (image .entry))) (top .0) (tableOf held (roomBefore masks levels entered)))
+        (roomBefore masks levels entered) r (roomAfter masks levels entered) ⌝ }
 {
     let mut count = held;
     let mut level = Level(1);

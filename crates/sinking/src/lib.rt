@@ -13,7 +13,8 @@ ghost use mathlib.Core.Path.{_≡_};
 ghost use Prim.Native.Nat.{_≤_, _<_};
 ghost use lib.ListN.{length, getD};
 ghost use Rattle.automata.specs.Answers.{ReadAs};
-ghost use Rattle.machine.specs.Lent.{unstampedRoom, blockersFrom};
+ghost use Rattle.machine.specs.Lent.{blockersFrom};
+ghost use Rattle.machine.specs.Lending.{unstampedBefore};
 ghost use Rattle.machine.specs.Runs.{systemOf};
 ghost use Rattle.indexing.specs.Index.{Index, Noted};
 ghost use Rattle.sinking.specs.Sunk.{eachCovered, TriedIn, LevelRisen, AllRisen};
@@ -32,7 +33,7 @@ fn each_covered(
     mask: u64,
 ) -> bool
     requires { ⌜ ReadAs (now image) head × Index (level .0) held (listed .upto) (listed .end) (now masks) (now levels) (now low) (now places) ⌝ }
-    ensures { λ r. ⌜ r ≡ eachCovered (systemOf (now (image .entry))) (blockersFrom (unstampedRoom (now (masks .entry)) (now (levels .entry))) held 0) (level .0) mask ⌝ }
+    ensures { λ r. ⌜ r ≡ eachCovered (systemOf (now (image .entry))) (blockersFrom (unstampedBefore masks levels) held 0) (level .0) mask ⌝ }
 {
     let mut symbol = Symbol(0);
     while symbol.0 < head.symbols {
@@ -59,8 +60,11 @@ fn try_rise(
     level: Level,
     place: usize,
 )
-    requires { ⌜ ReadAs (now image) head × Noted held (now masks) (now lacks) × Index (level .0) held (listed .upto) (listed .end) (now masks) (now levels) (now low) (now places) × (place < held) × (getD (now levels) place 0 < 4294967295) ⌝ }
-    ensures { λ _. ⌜ TriedIn (eachCovered (systemOf (now (image .entry))) (blockersFrom (unstampedRoom (now (masks .entry)) (now (levels .entry))) held 0) (level .0) (getD (now (masks .entry)) place 0)) place held (now (masks .entry)) (now (levels .entry)) (now (levels .exit)) ⌝ }
+    requires { ⌜ ReadAs (now image) head × Noted held (now masks) (now lacks)
+        × Index (level .0) held (listed .upto) (listed .end) (now masks) (now levels) (now low) (now places)
+        × (place < held) × (getD (now levels) place 0 < 4294967295) ⌝ }
+    ensures { λ _. ⌜ TriedIn (eachCovered (systemOf (now (image .entry))) (blockersFrom (unstampedBefore masks levels) held 0) (level .0) (getD (now (masks .entry)) place 0))
+        place held (now (masks .entry)) (now (levels .entry)) (now (levels .exit)) ⌝ }
 {
     let mask = masks[place];
     if !each_covered(
@@ -93,7 +97,8 @@ fn rise_level(
     lacks: &[u32],
     level: Level,
 )
-    requires { ⌜ ReadAs (now image) head × Noted held (now masks) (now lacks) × Index (level .0) held (listed .upto) (listed .end) (now masks) (now levels) (now low) (now places) × (1 ≤ level .0) × (level .0 < 4294967295) ⌝ }
+    requires { ⌜ ReadAs (now image) head × Noted held (now masks) (now lacks)
+        × Index (level .0) held (listed .upto) (listed .end) (now masks) (now levels) (now low) (now places) × (1 ≤ level .0) × (level .0 < 4294967295) ⌝ }
     ensures { λ _. ⌜ LevelRisen (systemOf (now (image .entry))) (level .0) held (now (masks .entry)) (now (levels .entry)) (now (levels .exit)) ⌝ }
 {
     let mut from: usize = 0;
@@ -130,7 +135,8 @@ fn regather(
     level: Level,
     every: u32,
 ) -> Extent
-    requires { ⌜ Index (level .0) held (listed .upto) (listed .end) (now masks) (now levels) (now low) (now places) × (1 ≤ every) × (length (now low) ≡ length (now places)) ⌝ }
+    requires { ⌜ Index (level .0) held (listed .upto) (listed .end) (now masks) (now levels) (now low) (now places) × (1 ≤ every)
+        × (length (now low) ≡ length (now places)) ⌝ }
     ensures { λ r. ⌜ Index (level .0) held (r .upto) (r .end) (now (masks .entry)) (now (levels .entry)) (now (low .exit)) (now (places .exit)) ⌝ }
 {
     if level.0 % every != 0 {
@@ -153,7 +159,9 @@ fn rise_by(
     top: Level,
     every: u32,
 )
-    requires { ⌜ ReadAs (now image) head × Noted held (now masks) (now lacks) × Index 1 held (listed .upto) (listed .end) (now masks) (now levels) (now low) (now places) × (top .0 < 4294967295) × (1 ≤ every) × (length (now low) ≡ length (now places)) ⌝ }
+    requires { ⌜ ReadAs (now image) head × Noted held (now masks) (now lacks)
+        × Index 1 held (listed .upto) (listed .end) (now masks) (now levels) (now low) (now places)
+        × (top .0 < 4294967295) × (1 ≤ every) × (length (now low) ≡ length (now places)) ⌝ }
     ensures { λ _. ⌜ AllRisen (systemOf (now (image .entry))) (top .0) held (now (masks .entry)) (now (levels .entry)) (now (levels .exit)) ⌝ }
 {
     let mut extent = listed;
@@ -188,7 +196,8 @@ fn rise_levels(
     lacks: &mut [u32],
     top: Level,
 )
-    requires { ⌜ ReadAs (now image) head × (top .0 < 4294967295) × (held ≤ length (now masks)) × (held ≤ length (now levels)) × (length (now low) ≡ length (now places)) ⌝ }
+    requires { ⌜ ReadAs (now image) head × (top .0 < 4294967295) × (held ≤ length (now masks)) × (held ≤ length (now levels))
+        × (length (now low) ≡ length (now places)) ⌝ }
     ensures { λ _. ⌜ AllRisen (systemOf (now (image .entry))) (top .0) held (now (masks .entry)) (now (levels .entry)) (now (levels .exit)) ⌝ }
 {
     leaving::note(masks, held, lacks);

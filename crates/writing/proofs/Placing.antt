@@ -9,7 +9,7 @@ use lib.ListN.{length, drop, set}
 use lib.Seq.{sets, sets-eq, set-out}
 use Rattle.lists.proofs.Tests.{choose-true, choose-false}
 use Rattle.writing.specs.Decimal.{digits}
-use Rattle.writing.specs.Rooms.{noBytes, allBytes, placed}
+use Rattle.writing.specs.Rooms.{noBytes, allBytes, fittedBytes}
 use Rattle.writing.proofs.Decimals.{digits-one, digits-more, length-digits-one, length-digits-more, twenty-digits}
 
 -- of bytes in two parts the second stands from the place behind the first
@@ -51,19 +51,19 @@ module _ (at number : ℕ) where
         ∙ sym (ap (sets room at) (digits-more number ten))
 
 -- a room too short stays as it is
-pub placed-short : (success : ℕ) (bytes room : List ℕ) → length room < length bytes → placed success bytes room ≡ noBytes 35 room
-unfolding placed
-placed-short success bytes room h = choose-false _ _ (lt-leb _ _ h)
+pub bytes-short : (success : ℕ) (bytes room : List ℕ) → length room < length bytes → fittedBytes success bytes room ≡ noBytes 35 room
+unfolding fittedBytes
+bytes-short success bytes room h = choose-false _ _ (lt-leb _ _ h)
 
--- bytes that fit are placed as a whole: they stand at the room's start, and their length is answered
-pub placed-whole : (success : ℕ) (bytes room : List ℕ) → length bytes ≤ length room → placed success bytes room ≡ allBytes success bytes room
-unfolding placed
-placed-whole success bytes room h = choose-true _ _ (le-leb _ _ h)
+-- bytes that fit are written as a whole: they stand at the room's start, and their length is answered
+pub bytes-whole : (success : ℕ) (bytes room : List ℕ) → length bytes ≤ length room → fittedBytes success bytes room ≡ allBytes success bytes room
+unfolding fittedBytes
+bytes-whole success bytes room h = choose-true _ _ (le-leb _ _ h)
 
-pub placed-fits : (success : ℕ) (bytes room after : List ℕ) → length bytes ≤ length room → after ≡ sets room 0 bytes
-    → record { number = success; written = length bytes; room = after } ≡ placed success bytes room
+pub bytes-fit : (success : ℕ) (bytes room after : List ℕ) → length bytes ≤ length room → after ≡ sets room 0 bytes
+    → record { number = success; written = length bytes; room = after } ≡ fittedBytes success bytes room
 unfolding allBytes
-placed-fits success bytes room after h e =
+bytes-fit success bytes room after h e =
     ap (λ (l : List ℕ). record { number = success; written = length bytes; room = l })
     (e ∙ sets-eq bytes room 0 (omega arith) ∙ ap (λ (k : ℕ). bytes ++ drop k room) (zero-add (length bytes)))
-    ∙ sym (placed-whole success bytes room h)
+    ∙ sym (bytes-whole success bytes room h)

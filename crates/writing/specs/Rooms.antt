@@ -26,5 +26,5 @@ unfoldable pub allBytes : ℕ → List ℕ → List ℕ → Answer
 allBytes success bytes room = record { number = success; written = length bytes; room = bytes ++ drop (length bytes) room }
 
 -- 02: "a room too short 35 (no space)"
-unfoldable pub placed : ℕ → List ℕ → List ℕ → Answer
-placed success bytes room = choose (leb (length bytes) (length room)) (allBytes success bytes room) (noBytes 35 room)
+unfoldable pub fittedBytes : ℕ → List ℕ → List ℕ → Answer
+fittedBytes success bytes room = choose (leb (length bytes) (length room)) (allBytes success bytes room) (noBytes 35 room)

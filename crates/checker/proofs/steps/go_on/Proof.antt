@@ -1,5 +1,5 @@
 use borrow.Author.Needs.{needs}
-use Rattle.machine.specs.Lent.{roomOf}
+use Rattle.machine.specs.Lent.{roomOf, wordRoomOf}
 use Rattle.machine.specs.Runs.{stepGiven}
 use Rattle.checker.specs.Stage.{stage}
 use Rattle.checker.proofs.Going.{GoesOn, goes-starts, goes-ready, goes-again, fewer-left, goes-returns, goes-ends}
@@ -8,7 +8,8 @@ use Rattle.checker.proofs.steps.go_on.Tie as tie
 
 abbrev Inv-loop : tie.InvT-loop
 Inv-loop image head masks₀ levels₀ entered₀ cases₀ symbols₀ hints allowance way more next₀ left₀ masks levels entered cases symbols next left =
-    GoesOn image head (stepGiven image hints allowance way) more (stage (roomOf masks₀ levels₀ entered₀) cases₀ symbols₀ next₀) left (stage (roomOf masks levels entered) cases symbols next)
+    GoesOn image head (stepGiven image hints allowance way) more (stage (roomOf masks₀ levels₀ entered₀) (wordRoomOf cases₀ symbols₀) next₀) left
+    (stage (roomOf masks levels entered) (wordRoomOf cases symbols) next)
 
 abbrev μ-loop : tie.MeasureT-loop
 μ-loop image head masks₀ levels₀ entered₀ cases₀ symbols₀ hints allowance way more next₀ left₀ masks levels entered cases symbols next left =
@@ -17,8 +18,8 @@ abbrev μ-loop : tie.MeasureT-loop
 loop-holds : tie.Need-loop-holds Inv-loop μ-loop
 loop-holds c = search (goes-starts, needs)
 
-step-requires : tie.Need-step-requires Inv-loop μ-loop
-step-requires c κs = (search needs, search (goes-ready, needs))
+working-step-requires : tie.Need-working-step-requires Inv-loop μ-loop
+working-step-requires c κs = (search needs, search (goes-ready, needs))
 
 returns : tie.Need-returns Inv-loop μ-loop
 returns c = search (goes-returns, needs)
@@ -39,7 +40,7 @@ go-on-spec =
     Inv-loop
     μ-loop
     loop-holds
-    step-requires
+    working-step-requires
     (λ c. search needs)
     (λ c. search needs)
     (λ c. search needs)

@@ -1,20 +1,28 @@
 use Rattle.checker.proofs.Stages.{ready-holds}
 use Rattle.checker.proofs.Stepping.{step-stops, step-works, step-closes, step-opens}
 use borrow.Author.Needs.{needs}
-use Rattle.checker.proofs.steps.step.Statement.{statement}
-use Rattle.checker.proofs.steps.step.Tie as tie
+use Rattle.checker.proofs.steps.working_step.Statement.{statement}
+use Rattle.checker.proofs.steps.working_step.Tie as tie
+
+-- places of the code, by their types
+worked-of : tie.After-slice-known12 → tie.After-work
+worked-of c = search
+
+start-of : tie.After-work → tie.Start
+start-of c = search
 
 returns : tie.Need-returns
 returns c = search (step-stops, needs)
 
 work-requires : tie.Need-work-requires
-work-requires c κs = let start = c .before .before .before .before .before .before .before .before .before .before .before .before .before .before .before .before .pre in (start .0, start .1, search needs, search needs)
+work-requires c κs = let start : tie.Start = search in (start .pre .0, start .pre .1, search needs, search needs)
 
 returns-2 : tie.Need-returns-2
-returns-2 c = let start = c .before .before .before .before .before .before .before .before .before .before .before .before .before .before .before .before .before .before .before .before .before .before .before .before .before .before .before .pre in step-works (start .0) (start .1) _ _ _ (search needs) (search needs)
+unfolding worked-of start-of
+returns-2 c = let given = start-of (worked-of c) .pre in step-works (given .0) (given .1) _ _ _ (search needs) (search needs)
 
 close-level-requires : tie.Need-close-level-requires
-close-level-requires c κs = let start = c .before .before .before .before .before .before .before .before .before .before .before .before .before .before .before .pre in (start .0, ready-holds (start .1), search needs, search needs)
+close-level-requires c κs = let start : tie.Start = search in (start .pre .0, ready-holds (start .pre .1), search needs, search needs)
 
 returns-3 : tie.Need-returns-3
 returns-3 c = search (step-closes, needs)
@@ -22,8 +30,8 @@ returns-3 c = search (step-closes, needs)
 returns-4 : tie.Need-returns-4
 returns-4 c = search (step-opens, needs)
 
-pub step-spec : {M : Type 1} → statement M
-step-spec =
+pub working-step-spec : {M : Type 1} → statement M
+working-step-spec =
     tie.close
     (tie.spec
     (λ c κs. search needs)

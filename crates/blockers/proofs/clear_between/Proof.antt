@@ -2,8 +2,8 @@ use borrow.Author.Needs.{needs}
 use Prim.Native.Nat.{_-_}
 use Rattle.machine.specs.Lent.{roomOf}
 use Rattle.blockers.proofs.Closing.{Clearing, clear-starts, clear-goes, clear-ends}
-use Rattle.blockers.proofs.clear.Statement.{statement}
-use Rattle.blockers.proofs.clear.Tie as tie
+use Rattle.blockers.proofs.clear_between.Statement.{statement}
+use Rattle.blockers.proofs.clear_between.Tie as tie
 
 abbrev Inv-loop : tie.InvT-loop
 Inv-loop masks₀ levels₀ entered₀ from to i₀ masks levels entered i = Clearing from to i (roomOf masks₀ levels₀ entered₀) (roomOf masks levels entered)
@@ -20,8 +20,8 @@ loop-again c = search (clear-goes, needs)
 returns : tie.Need-returns Inv-loop μ-loop
 returns c = search (clear-ends, needs)
 
-pub clear-spec : {M : Type 1} → statement M
-clear-spec =
+pub clear-between-spec : {M : Type 1} → statement M
+clear-between-spec =
     tie.close
     (tie.spec
     Inv-loop

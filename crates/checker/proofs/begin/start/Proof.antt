@@ -1,7 +1,7 @@
 use Rattle.checker.proofs.Starting.{start-works, start-final-second, start-final}
 use borrow.Author.Needs.{needs}
-use Rattle.checker.proofs.calls.start.Statement.{statement}
-use Rattle.checker.proofs.calls.start.Tie as tie
+use Rattle.checker.proofs.begin.start.Statement.{statement}
+use Rattle.checker.proofs.begin.start.Tie as tie
 
 returns : tie.Need-returns
 returns c = search (start-works, needs)

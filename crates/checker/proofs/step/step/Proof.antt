@@ -1,8 +1,8 @@
 use Rattle.checker.proofs.Checking.{image-reads}
 use Rattle.checker.proofs.Calling.{step-refuses-image}
 use borrow.Author.Needs.{needs}
-use Rattle.checker.proofs.calls.step.Statement.{statement}
-use Rattle.checker.proofs.calls.step.Tie as tie
+use Rattle.checker.proofs.step.step.Statement.{statement}
+use Rattle.checker.proofs.step.step.Tie as tie
 
 step-read-requires : tie.Need-step-read-requires
 step-read-requires c κs = search (image-reads, needs)

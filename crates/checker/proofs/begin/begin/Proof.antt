@@ -1,8 +1,8 @@
 use Rattle.checker.proofs.Calling.{begin-refuses-image, begin-is}
 use Rattle.checker.proofs.Checking.{image-reads}
 use borrow.Author.Needs.{needs}
-use Rattle.checker.proofs.calls.begin.Statement.{statement}
-use Rattle.checker.proofs.calls.begin.Tie as tie
+use Rattle.checker.proofs.begin.begin.Statement.{statement}
+use Rattle.checker.proofs.begin.begin.Tie as tie
 
 begin-read-requires : tie.Need-begin-read-requires
 begin-read-requires c κs = search (image-reads, needs)
@@ -11,7 +11,7 @@ returns : tie.Need-returns
 returns c = search (begin-refuses-image, needs)
 
 returns-2 : tie.Need-returns-2
-returns-2 c = begin-is _ _ _ _ _ _ _ (c .before .before .before .before .before .before .before .before .before .before .before .begin-read .ensures) (c .to-record2 .ensures)
+returns-2 c = search (begin-is, needs)
 
 pub begin-spec : {M : Type 1} → statement M
 begin-spec =

@@ -1,14 +1,13 @@
 use Rattle.checker.proofs.Starting.{cleared-is}
 use borrow.Author.Needs.{needs}
-use Rattle.checker.proofs.calls.clear.Statement.{statement}
-use Rattle.checker.proofs.calls.clear.Tie as tie
-use Rattle.pending.proofs.clear.Reads as clear-reads′
+use Rattle.checker.proofs.begin.clear_rooms.Statement.{statement}
+use Rattle.checker.proofs.begin.clear_rooms.Tie as tie
 
 returns : tie.Need-returns
 returns c = search (cleared-is, needs)
 
-pub clear-spec : {M : Type 1} → statement M
-clear-spec =
+pub clear-rooms-spec : {M : Type 1} → statement M
+clear-rooms-spec =
     tie.close
     (tie.spec
     (λ c κs. search needs)

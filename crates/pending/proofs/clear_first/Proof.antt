@@ -1,11 +1,12 @@
+use Rattle.machine.specs.Lent.{wordRoomOf}
 use Rattle.pending.proofs.WordRoom.{ClearingBoth, both-start, both-next, both-end}
 use Prim.Native.Nat.{_-_}
 use borrow.Author.Needs.{needs}
-use Rattle.pending.proofs.clear.Statement.{statement}
-use Rattle.pending.proofs.clear.Tie as tie
+use Rattle.pending.proofs.clear_first.Statement.{statement}
+use Rattle.pending.proofs.clear_first.Tie as tie
 
 abbrev Inv-loop : tie.InvT-loop
-Inv-loop cases₀ symbols₀ count at₀ cases symbols at = ClearingBoth count cases₀ symbols₀ cases symbols at
+Inv-loop cases₀ symbols₀ count at₀ cases symbols at = ClearingBoth count (wordRoomOf cases₀ symbols₀) (wordRoomOf cases symbols) at
 
 abbrev μ-loop : tie.MeasureT-loop
 μ-loop cases₀ symbols₀ count at₀ cases symbols at = count - at
@@ -19,8 +20,8 @@ loop-again c = search (both-next, needs)
 returns : tie.Need-returns Inv-loop μ-loop
 returns c = search (both-end, needs)
 
-pub clear-spec : {M : Type 1} → statement M
-clear-spec =
+pub clear-first-spec : {M : Type 1} → statement M
+clear-first-spec =
     tie.close
     (tie.spec
     Inv-loop

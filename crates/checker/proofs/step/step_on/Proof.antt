@@ -1,4 +1,4 @@
--- `calls::step_on` meets its contract: a walk of its MIR, by hand. The record's borrow is opened, the record is copied out and passed to `step` with the tables, what `step` returns is stored back, and the borrow is closed. All that the proof knows of `step` is that it meets its contract.
+-- `step::step_on` meets its contract: a walk of its MIR, by hand. The record's borrow is opened, the record is copied out and passed to `step` with the tables, what `step` returns is stored back, and the borrow is closed. All that the proof knows of `step` is that it meets its contract.
 -- The tables' borrows go to `step` at their own lifetimes, shares and ghost names: they are given up for good, and what `step` says of their last values is what `step_on` says (`kept`). What `step` ensures is handed on as it is: at the number and the record that it returns it is what `step_on` ensures, by computation.
 -- The context at a point of the walk stands in brackets: `_i` is the local i, and `…` after it what frees it.
 -- Assumes nothing.
@@ -39,20 +39,20 @@ use denote.Triple.Call.{calls-at}
 use denote.Triple.Clauses.{Lasts, atExit, lasts, ensured}
 use denote.Triple.Table.{entered, cited}
 use Rattle.checker.specs.declared.record.Record.{Record}
-use Rattle.checker.specs.declared.calls.Called.{Called}
+use Rattle.checker.specs.declared.step.Called.{Called}
 use Rattle.checker.proofs.record.Record as R
 use Rattle.checker.proofs.record.Record.Laws as R′
-use Rattle.checker.proofs.calls.Called as S
-use Rattle.checker.proofs.calls.Called.Laws as S′
+use Rattle.checker.proofs.step.Called as S
+use Rattle.checker.proofs.step.Called.Laws as S′
 use Rattle.checker.proofs.Walk.{frameOf, backwards, alloc-all, frees-all, loaded, sets, becomes, tokens, Swap, here, gone, added, deeper, takes, puts}
-use Rattle.checker.proofs.calls.step as step
-use Rattle.checker.proofs.calls.step.Symbol as step-def
-use Rattle.checker.proofs.calls.step.Symbol.{name as #step}
-use Rattle.checker.proofs.calls.step.Met as step-thm
-use Rattle.checker.proofs.calls.step_on.Key.{name as #step-on}
-use Rattle.checker.proofs.calls.step_on as step-on
-use Rattle.checker.proofs.calls.step_on.Statement as stated
-use Rattle.checker.proofs.calls.step_on.Code as code
+use Rattle.checker.proofs.step.step as step
+use Rattle.checker.proofs.step.step.Symbol as step-def
+use Rattle.checker.proofs.step.step.Symbol.{name as #step}
+use Rattle.checker.proofs.step.step.Met as step-thm
+use Rattle.checker.proofs.step.step_on.Key.{name as #step-on}
+use Rattle.checker.proofs.step.step_on as step-on
+use Rattle.checker.proofs.step.step_on.Statement as stated
+use Rattle.checker.proofs.step.step_on.Code as code
 
 -- the contract that the proof cites
 abbrev Step : {M : Type 1} (𝓤 : URA M) (H : Heap 𝓤) (A : Atoms 𝓤) (mem : Memory → SProp 𝓤) (run : Routine → Fun 𝓤) → Contract 𝓤
@@ -239,4 +239,4 @@ step-on-spec 𝓤 H 𝓜 𝓖 𝓡 =
     entered 𝓤 H (tripleOf 𝓤 H (𝓖 .A) step-on.signature (step-on.spec 𝓤 H (𝓖 .A) (𝓜 .mem) (𝓡 .run)))
     (tables 𝓤 H 𝓜 𝓡 code.env .C) (tables 𝓤 H 𝓜 𝓡 code.env .Λ) #step-on code.function (code.unfolded 𝓤 H 𝓜 𝓡)
     (step-on-meets 𝓤 H (𝓖 .A) (givenOf 𝓤 H 𝓜 𝓖) (𝓜 .mem) (𝓡 .run) (tablesOf 𝓤 H 𝓜 (tables 𝓤 H 𝓜 𝓡 code.env))
-    (cited 𝓤 H (Step 𝓤 H (𝓖 .A) (𝓜 .mem) (𝓡 .run)) 𝓜 𝓡 code.env #step step-def.routine code.calls-checker·calls·step (step-thm.met 𝓤 H 𝓜 𝓖 𝓡)))
+    (cited 𝓤 H (Step 𝓤 H (𝓖 .A) (𝓜 .mem) (𝓡 .run)) 𝓜 𝓡 code.env #step step-def.routine code.calls-checker·step·step (step-thm.met 𝓤 H 𝓜 𝓖 𝓡)))
