@@ -183,8 +183,10 @@ module _ {held place level stands : ℕ} {room room′ : BlockerRoom}
   pub rise-room : HoldsRoom (stands + 1) room′
   rise-room = holds-fewer (omega (arith, passed .few, asked .1)) (long-holds (close-long passed before) (asked .0))
 
-  pub rise-behind : {Y : Blocker} {room″ : BlockerRoom} → Put Y stands room′ room″ → HoldsRoom held room″
-  rise-behind put = long-holds (long-further (close-long passed before) (put-long put)) (asked .0)
+  pub rise-behind : {Y : Blocker} {room″ : BlockerRoom} → Put Y stands room′ room″
+      → (stands + 1 ≤ place + 1) × (place + 1 ≤ held) × HoldsRoom held room″
+  rise-behind put =
+      (omega (arith, passed .few), omega (arith, asked .1), long-holds (long-further (close-long passed before) (put-long put)) (asked .0))
 
   pub rises-at : {end : ℕ} {room″ room‴ : BlockerRoom} → Put R stands room′ room″
       → ClosedUp (blockerOf (getD (room .masks) place 0) level) (stands + 1) (place + 1) held end room″ room‴

@@ -21,7 +21,9 @@ loop-again-2 : tie.Need-loop-again-2 Inv-loop μ-loop
 loop-again-2 c = search (close-stands, needs)
 
 loop-again-3 : tie.Need-loop-again-3 Inv-loop μ-loop
-loop-again-3 c = search (close-stays (c .before .before .before .before .before .before .before .before .before .before .before .before .before .before .before .before .before .loop .inv), c .before .before .before .before .before .before .put .ensures, needs)
+loop-again-3 c =
+    let turn : tie.At-loop Inv-loop μ-loop = search in
+    search (close-stays (turn .loop .inv), needs)
 
 returns : tie.Need-returns Inv-loop μ-loop
 returns c = search (close-ends, needs)

@@ -4,25 +4,24 @@ use Rattle.blockers.proofs.rise.Statement.{statement}
 use Rattle.blockers.proofs.rise.Tie as tie
 
 put-requires : tie.Need-put-requires
-put-requires c κs =
-    let passed = c .before .before .before .before .before .before .before .before .before in
-    let read = passed .before .before .before .before .before in
-    rise-room (read .before .before .before .before .before .before .pre) (read .above .ensures) (passed .close-up .ensures)
+put-requires c κs = search (rise-room, needs)
 
 close-up-requires-2 : tie.Need-close-up-requires-2
 close-up-requires-2 c κs =
-    let risen = c .before .before .before .before .before .before .before .before .before in
-    let passed = risen .before .before .before .before .before .before .before .before .before .before in
-    let read = passed .before .before .before .before .before in
-    (search needs, search needs, rise-behind (read .before .before .before .before .before .before .pre) (read .above .ensures) (passed .close-up .ensures) (risen .put .ensures))
+    let risen : tie.After-put = search in
+    let passed : tie.After-close-up = search in
+    let read : tie.After-above = search in
+    let start : tie.Start = search in
+    rise-behind (start .pre) (read .above .ensures) (passed .close-up .ensures) (risen .put .ensures)
 
 returns : tie.Need-returns
 returns c =
-    let closed = c .before .before .before .before .before .before in
-    let risen = closed .before .before .before .before .before .before .before .before .before .before in
-    let passed = risen .before .before .before .before .before .before .before .before .before .before in
-    let read = passed .before .before .before .before .before in
-    rises-at (read .before .before .before .before .before .before .pre) (read .above .ensures) (passed .close-up .ensures) (risen .put .ensures) (closed .close-up2 .ensures)
+    let closed : tie.After-close-up2 = search in
+    let risen : tie.After-put = search in
+    let passed : tie.After-close-up = search in
+    let read : tie.After-above = search in
+    let start : tie.Start = search in
+    rises-at (start .pre) (read .above .ensures) (passed .close-up .ensures) (risen .put .ensures) (closed .close-up2 .ensures)
 
 pub rise-spec : {M : Type 1} → statement M
 rise-spec =
