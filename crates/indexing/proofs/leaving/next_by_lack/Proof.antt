@@ -20,7 +20,10 @@ returns : tie.Need-returns Inv-loop μ-loop
 returns c = search (finds-next, needs)
 
 loop-again : tie.Need-loop-again Inv-loop μ-loop
-loop-again c = lack-goes (search needs) (search needs) _ _ (c .before .before .before .before .before .before .before .lacked .ensures) (c .before .before .before .before .before .loop .inv) (c .before .before .subset .ensures) (c .before .if1 .left) (c .next-containing2 .ensures)
+loop-again c =
+    let turn : tie.At-loop Inv-loop μ-loop = search in
+    lack-goes (search needs) (search needs) _ _ (search needs) (turn .loop .inv) (c .before .before .subset .ensures) (search needs)
+    (c .next-containing2 .ensures)
 
 returns-2 : tie.Need-returns-2 Inv-loop μ-loop
 returns-2 c = search (finds-none, needs)
