@@ -24,7 +24,9 @@ returns : tie.Need-returns Inv-loop μ-loop
 returns c = search (covered-fails, needs)
 
 loop-again : tie.Need-loop-again Inv-loop μ-loop
-loop-again c = search (covered-goes, c .before .before .before .before .before .before .before .loop .inv, c .before .before .before .before .if1 .taken, c .before .before .before .backward .ensures, c .before .before .is-covered .ensures, c .before .if2 .left, needs)
+loop-again c =
+    let turn : tie.At-loop Inv-loop μ-loop = search in
+    search (covered-goes, turn .loop .inv, needs)
 
 returns-2 : tie.Need-returns-2 Inv-loop μ-loop
 returns-2 c = search (covered-all, needs)
