@@ -41,8 +41,8 @@ symbols-again-3 c = search (try-covered, needs)
 
 loop-again : tie.Need-loop-again Inv-loop μ-loop Inv-symbols μ-symbols
 loop-again c =
-    tried-goes (c .before .before .before .before .loop .inv) _ _ (c .before .before .before .loop-test .taken) (c .before .before .reason-at .ensures)
-    (c .before .is-there2 .ensures) (c .if4 .left)
+    let turn : tie.At-loop Inv-loop μ-loop Inv-symbols μ-symbols = search in
+    search (tried-goes (turn .loop .inv), needs)
 
 returns-2 : tie.Need-returns-2 Inv-loop μ-loop Inv-symbols μ-symbols
 returns-2 c = search (find-open, needs)
