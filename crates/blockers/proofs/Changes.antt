@@ -18,14 +18,13 @@ use Rattle.lists.proofs.Tests.{is-true, choose-true, choose-false}
 use Rattle.masks.specs.Sets.{subset, full}
 use Rattle.masks.proofs.Laws.{below-within, within-full}
 use Rattle.machine.specs.Machine.{Blocker, leaves, staying, risen, frame}
-use Rattle.machine.specs.Lent.{BlockerRoom, EvenRoom, blockerOf, blockerAt, blockersFrom}
+use Rattle.machine.specs.Lent.{BlockerRoom, EvenRoom, blockerOf, blockerAt, blockersFrom, withTable}
 use Rattle.blockers.specs.declared.Entered.{Entered}
 use Rattle.blockers.specs.declared.Entered.the-variants.{Held, Full}
 use Rattle.blockers.specs.Room.{
   HoldsRoom,
   tableOf,
-  Placed,
-  Put,
+  putAt,
   ClosedUp,
   entering,
   enteredAnswer,
@@ -63,7 +62,7 @@ module _ {Y : Blocker} {held end : ℕ} {room room′ : BlockerRoom} (closed : C
   -- closing up leaves the tables as long as before
   close-long : HoldsRoom held room → AsLong room room′
   close-long holds =
-      placed-long (staying Y (tableOf held room)) (close-placed closed) holds (holds-fewer (omega (arith, close-count closed, closed .few)) holds)
+      placed-long held room (staying Y (tableOf held room)) (close-placed closed) holds (holds-fewer (omega (arith, close-count closed, closed .few)) holds)
 
   -- with Y there is one blocker more than stayed
   entering-length : length (entering Y (tableOf held room)) ≡ end + 1
@@ -91,10 +90,10 @@ module _ {Y : Blocker} {held end : ℕ} {room room′ : BlockerRoom} (closed : C
       let lacks : leb (length (entering Y table)) (length (room .masks)) ≡ false = lt-leb (length (entering Y table)) (length (room .masks)) lacking in
       record {
         answers = sym (choose-false (Held (length (entering Y table))) Full lacks);
-        tables = subst (λ (new : List Blocker). Placed held new room room′) (all ∙ sym (choose-false (entering Y table) table lacks)) (close-placed shut);
+        tables = subst (λ (new : List Blocker). room′ ≡ withTable held new room) (all ∙ sym (choose-false (entering Y table) table lacks)) (close-placed shut);
       }
 
-  pub enter-held : {room″ : BlockerRoom} → Put Y end room′ room″ → end < length (room′ .masks) → Enters held Y room (Held (end + 1)) room″
+  pub enter-held : {room″ : BlockerRoom} → room″ ≡ putAt Y end room′ → end < length (room′ .masks) → Enters held Y room (Held (end + 1)) room″
   unfolding enteredAnswer enteredTable entering
   enter-held {room″} put l =
       let shut = close-for Y closed in
@@ -106,8 +105,8 @@ module _ {Y : Blocker} {held end : ℕ} {room room′ : BlockerRoom} (closed : C
       le-leb (length new) (length (room .masks)) (omega (arith, long .masks, entering-length shut)) in
       record {
         answers = ap Held (sym (entering-length shut)) ∙ sym (choose-true (Held (length new)) Full fits);
-        tables = subst (λ (t : List Blocker). Placed held t room room″) (sym (choose-true new table fits))
-            (placed-put (close-placed shut) put (close-count shut) (asked .0) place);
+        tables = subst (λ (t : List Blocker). room″ ≡ withTable held t room) (sym (choose-true new table fits))
+            (placed-put held _ (close-placed shut) Y end put (close-count shut) (asked .0) place);
       }
 
 -- What a caller learns from the answer: whether there was room, the new count, and what stands in the tables.
@@ -138,10 +137,10 @@ module _ {held : ℕ} {Y : Blocker} {room : BlockerRoom} {answer : Entered} {roo
     pub held-fits : count ≤ length (room .masks)
     held-fits = omega (arith, held-count, leb-true (length (entering Y (tableOf held room))) (length (room .masks)) held-room)
 
-    pub held-placed : Placed held (entering Y (tableOf held room)) room room′
+    pub held-placed : room′ ≡ withTable held (entering Y (tableOf held room)) room
     unfolding enteredTable
     held-placed =
-        subst (λ (table : List Blocker). Placed held table room room′)
+        subst (λ (table : List Blocker). room′ ≡ withTable held table room)
         (choose-true (entering Y (tableOf held room)) (tableOf held room) held-room) (enters .tables)
 
   module _ (e : answer ≡ Full) where
@@ -151,14 +150,14 @@ module _ {held : ℕ} {Y : Blocker} {room : BlockerRoom} {answer : Entered} {roo
         choice-full (leb (length (entering Y (tableOf held room))) (length (room .masks))) (length (entering Y (tableOf held room)))
         (sym (enters .answers) ∙ e)
 
-    full-placed : Placed held (tableOf held room) room room′
+    full-placed : room′ ≡ withTable held (tableOf held room) room
     unfolding enteredTable
     full-placed =
-        subst (λ (table : List Blocker). Placed held table room room′)
+        subst (λ (table : List Blocker). room′ ≡ withTable held table room)
         (choose-false (entering Y (tableOf held room)) (tableOf held room) full-room) (enters .tables)
 
     pub full-room-stays : HoldsRoom held room → room′ ≡ room
-    full-room-stays holds = full-placed .tables ∙ own-room holds
+    full-room-stays holds = full-placed ∙ own-room holds
 
 -- the blocker at a place rises to a level
 module _ {held place level stands : ℕ} {room room′ : BlockerRoom}
@@ -183,12 +182,10 @@ module _ {held place level stands : ℕ} {room room′ : BlockerRoom}
   pub rise-room : HoldsRoom (stands + 1) room′
   rise-room = holds-fewer (omega (arith, passed .few, asked .1)) (long-holds (close-long passed before) (asked .0))
 
-  pub rise-behind : {Y : Blocker} {room″ : BlockerRoom} → Put Y stands room′ room″
-      → (stands + 1 ≤ place + 1) × (place + 1 ≤ held) × HoldsRoom held room″
-  rise-behind put =
-      (omega (arith, passed .few), omega (arith, asked .1), long-holds (long-further (close-long passed before) (put-long put)) (asked .0))
+  pub rise-behind : (Y : Blocker) {room″ : BlockerRoom} → room″ ≡ putAt Y stands room′ → HoldsRoom held room″
+  rise-behind Y put = long-holds (long-further (close-long passed before) (put-long _ _ put)) (asked .0)
 
-  pub rises-at : {end : ℕ} {room″ room‴ : BlockerRoom} → Put R stands room′ room″
+  pub rises-at : {end : ℕ} {room″ room‴ : BlockerRoom} → room″ ≡ putAt R stands room′
       → ClosedUp (blockerOf (getD (room .masks) place 0) level) (stands + 1) (place + 1) held end room″ room‴
       → RisesAt held place room end stands room‴
   unfolding risenAmong
@@ -199,16 +196,16 @@ module _ {held place level stands : ℕ} {room room′ : BlockerRoom}
       let count : stands + 1 ≡ length first =
       omega (arith, close-count first-closed, length-append (staying R (tableOf place room)) (R ∷ [])) in
       let fits : HoldsRoom (suc stands) room = holds-fewer (omega (arith, asked .1)) (asked .0) in
-      let new : Placed place first room room″ = placed-put (close-placed first-closed) put (close-count first-closed) before fits in
+      let new : room″ ≡ withTable place first room = placed-put place _ (close-placed first-closed) R stands put (close-count first-closed) before fits in
       let closed : ClosedUp R (stands + 1) (place + 1) held end room″ room‴ = close-for R ahead in
       let whole : first ++ staying R others ≡ risenTable held room place =
       append-snoc (staying R (tableOf place room)) R (staying R others)
       ∙ ap (λ (r : Blocker). staying r (tableOf place room) ++ r ∷ staying r others) same-risen in
       record {
-        count = close-behind-count new closed before count (omega arith) (omega arith) ∙ ap length whole;
+        count = close-behind-count place first new closed before count (omega arith) (omega arith) ∙ ap length whole;
         stands = close-count first-closed ∙ ap (λ (r : Blocker). length (staying r (tableOf place room))) same-risen;
-        tables = subst (λ (table : List Blocker). Placed held table room room‴) whole
-            (close-behind new closed before count (omega arith) (omega arith) (omega (arith, asked .1)));
+        tables = subst (λ (table : List Blocker). room‴ ≡ withTable held table room) whole
+            (close-behind place first new closed before count (omega arith) (omega arith) (omega (arith, asked .1)));
         few = omega (arith, ahead .few, asked .1);
         below = omega (arith, ahead .count);
         left = omega (arith, ahead .few, asked .1);
@@ -225,8 +222,8 @@ module _ {held place : ℕ} {room : BlockerRoom} {held′ place′ : ℕ} {room�
       let others : List Blocker = staying R (blockersFrom room (held - (place + 1)) (place + 1)) in
       let count : place′ + 1 ≡ length (first ++ R ∷ []) = omega (arith, rises .stands, length-append first (R ∷ [])) in
       ap (λ (k : ℕ). blockersFrom room′ k 0) count
-      ∙ placed-first (first ++ R ∷ []) others
-      (subst (λ (table : List Blocker). Placed held table room room′) (sym (append-snoc first R others)) (rises .tables))
+      ∙ placed-first held room (first ++ R ∷ []) others
+      (subst (λ (table : List Blocker). room′ ≡ withTable held table room) (sym (append-snoc first R others)) (rises .tables))
 
   pub risen-ahead : blockersFrom room′ (held′ - (place′ + 1)) (place′ + 1)
       ≡ staying (risen (blockerAt room place)) (blockersFrom room (held - (place + 1)) (place + 1))
@@ -238,8 +235,8 @@ module _ {held place : ℕ} {room : BlockerRoom} {held′ place′ : ℕ} {room�
       let start : place′ + 1 ≡ length (first ++ R ∷ []) = omega (arith, rises .stands, length-append first (R ∷ [])) in
       let count : held′ - (place′ + 1) ≡ length others = omega (arith, rises .count, rises .stands, length-append first (R ∷ others)) in
       ap₂ (λ (k at : ℕ). blockersFrom room′ k at) count start
-      ∙ placed-rest (first ++ R ∷ []) others
-      (subst (λ (table : List Blocker). Placed held table room room′) (sym (append-snoc first R others)) (rises .tables))
+      ∙ placed-rest held room (first ++ R ∷ []) others
+      (subst (λ (table : List Blocker). room′ ≡ withTable held table room) (sym (append-snoc first R others)) (rises .tables))
 
 -- only those above a level stay
 module _ (j : ℕ) (room : BlockerRoom) (fits : (i : ℕ) → Fits w64 (getD (room .masks) i 0)) where
@@ -271,6 +268,6 @@ framed {j} {held} {end} {room} {room′} closed fits =
     let same : staying (blockerOf 18446744073709551615 j) (tableOf held room) ≡ frame j (tableOf held room) = stay-above j room fits held 0 in
     record {
       count = close-count closed ∙ ap length same;
-      tables = subst (λ (table : List Blocker). Placed held table room room′) same (close-placed closed);
+      tables = subst (λ (table : List Blocker). room′ ≡ withTable held table room) same (close-placed closed);
       few = omega (arith, closed .few);
     }

@@ -12,7 +12,7 @@ use Rattle.lists.specs.Lists.{keep}
 use Rattle.machine.specs.Machine.{Blocker, covers, leaves, staying}
 use Rattle.machine.specs.Lent.{BlockerRoom, blockerOf, blockerAt, blockersFrom, column, maskOf, levelOf, enteredOf, eachTable}
 use Rattle.machine.proofs.LentTables.{tables-alike, column-length, column-append}
-use Rattle.blockers.specs.Room.{HoldsRoom, Put, over, ClosedUp, Cleared}
+use Rattle.blockers.specs.Room.{HoldsRoom, putAt, over, ClosedUp, clearedBetween}
 use Rattle.blockers.proofs.Over.{over-behind, over-store-last, over-over, over-nothing}
 use Rattle.blockers.proofs.Walks.{next-blocker, no-blocker}
 
@@ -56,9 +56,10 @@ long-holds long holds = record {
 }
 
 -- a store leaves the tables as long as they were
-pub put-long : {place : ℕ} {Y : Blocker} {room room′ : BlockerRoom} → Put Y place room room′ → AsLong room room′
-put-long {place} {Y} {room} put =
-    subst (AsLong room) (sym (put .tables))
+pub put-long : (place : ℕ) (Y : Blocker) {room room′ : BlockerRoom} → room′ ≡ putAt Y place room → AsLong room room′
+unfolding putAt
+put-long place Y {room} put =
+    subst (AsLong room) (sym put)
     (record {
       masks = length-set (room .masks) place (Y .mask);
       levels = length-set (room .levels) place (Y .level);
@@ -177,7 +178,8 @@ module _ {Y : Blocker} {start from to : ℕ} {room : BlockerRoom} {kept i : ℕ}
 
   -- One that stays goes to the next place.
   module _ (b : Bool) (l : i < to) (e : b ≡ covers (getD (room′ .levels) i 0) (getD (room′ .masks) i 0) Y) (t : b ≡ false) where
-    pub close-stays : {room″ : BlockerRoom} → Put (blockerAt room′ i) kept room′ room″ → ClosingUp Y start from to room (kept + 1) (i + 1) room″
+    pub close-stays : {room″ : BlockerRoom} → room″ ≡ putAt (blockerAt room′ i) kept room′ → ClosingUp Y start from to room (kept + 1) (i + 1) room″
+    unfolding putAt
     close-stays {room″} put =
         let blocker : Blocker = blockerAt room′ i in
         let rest : List Blocker = blockersFrom room (to - (i + 1)) (i + 1) in
@@ -186,8 +188,8 @@ module _ {Y : Blocker} {start from to : ℕ} {room : BlockerRoom} {kept i : ℕ}
         ∙ first-stays Y blocker rest (sym (e ∙ leaves-covered Y blocker) ∙ t)) in
         goes (so-far .stayed ++ blocker ∷ []) l (omega arith) (omega (arith, so-far .count, length-append (so-far .stayed) (blocker ∷ [])))
         (append-snoc (so-far .stayed) blocker (staying Y rest) ∙ ap (λ (others : List Blocker). so-far .stayed ++ others) same)
-        (long-further (so-far .long) (put-long put))
-        (put .tables
+        (long-further (so-far .long) (put-long _ _ put))
+        (put
         ∙ ap (λ (r : BlockerRoom). eachTable (λ field before. set before kept (field blocker)) r) (so-far .closing)
         ∙ tables-within (so-far .first)
         (λ field before. set (over (take start before ++ column field (so-far .stayed)) before) kept (field blocker))
@@ -197,16 +199,17 @@ module _ {Y : Blocker} {start from to : ℕ} {room : BlockerRoom} {kept i : ℕ}
 
     -- where none has left yet, it stands there already
     pub close-stands : kept ≡ i → ClosingUp Y start from to room (kept + 1) (i + 1) room′
-    close-stands same = close-stays (record { tables = own })
+    unfolding putAt
+    close-stands same = close-stays own
       where
-        own : room′ ≡ eachTable (λ field before. set before kept (field (blockerAt room′ i))) room′
+        own : room′ ≡ putAt (blockerAt room′ i) kept room′
         own =
             let stands : (table : List ℕ) → set table kept (getD table i 0) ≡ table =
             λ table. ap (λ (k : ℕ). set table k (getD table i 0)) same ∙ set-getD table i 0 in
             sym (rw (stands (room′ .masks), stands (room′ .levels), stands (room′ .entered)))
 
-  pub close-ends : {room″ : BlockerRoom} → Cleared kept to room′ room″ → to ≤ i → ClosedUp Y start from to kept room room″
-  unfolding staying keep
+  pub close-ends : {room″ : BlockerRoom} → room″ ≡ clearedBetween kept to room′ → to ≤ i → ClosedUp Y start from to kept room room″
+  unfolding staying keep clearedBetween
   close-ends cleared l =
       let all : so-far .stayed ≡ staying Y (blockersFrom room (to - from) from) =
       sym (append-nil (so-far .stayed))
@@ -215,7 +218,7 @@ module _ {Y : Blocker} {start from to : ℕ} {room : BlockerRoom} {kept i : ℕ}
       record {
         count = so-far .count ∙ ap (λ (table : List Blocker). start + length table) all;
         few = omega (arith, so-far .few, so-far .bound);
-        tables = cleared .tables
+        tables = cleared
             ∙ ap (λ (r : BlockerRoom). eachTable (λ field before. over (take kept before ++ replicate (to - kept) 0) before) r) (so-far .closing)
             ∙ tables-within (so-far .first) _ (λ field before. over (take start before ++ column field (so-far .stayed) ++ replicate (to - kept) 0) before)
             (λ field before h. closing-cleared field start (so-far .stayed) before (omega (arith, so-far .begins, so-far .bound, so-far .behind)) kept to
@@ -267,13 +270,14 @@ clear-starts {from} {to} {room} holds = record {
 }
 
 module _ {from to i : ℕ} {room room′ : BlockerRoom} (so-far : Clearing from to i room room′) where
-  pub clear-goes : {room″ : BlockerRoom} → i < to → Put (blockerOf 0 0) i room′ room″ → Clearing from to (i + 1) room room″
+  pub clear-goes : {room″ : BlockerRoom} → i < to → room″ ≡ putAt (blockerOf 0 0) i room′ → Clearing from to (i + 1) room room″
+  unfolding putAt
   clear-goes {room″} l put = record {
     begins = omega (arith, so-far .begins);
     bound = omega arith;
     first = so-far .first;
-    long = long-further (so-far .long) (put-long put);
-    cleared = put .tables
+    long = long-further (so-far .long) (put-long _ _ put);
+    cleared = put
         ∙ ap (λ (r : BlockerRoom). eachTable (λ field before. set before i (field (blockerOf 0 0))) r) (so-far .cleared)
         ∙ zeros;
   }
@@ -285,10 +289,8 @@ module _ {from to i : ℕ} {room room′ : BlockerRoom} (so-far : Clearing from 
           (λ field before. over (take from before ++ replicate (i + 1 - from) 0) before)
           (λ field before h. one-more-zero from i before (so-far .begins) (omega arith))
 
-  pub clear-ends : to ≤ i → Cleared from to room room′
+  pub clear-ends : to ≤ i → room′ ≡ clearedBetween from to room
+  unfolding clearedBetween
   clear-ends l =
       let all : i - from ≡ to - from = omega (arith, so-far .bound) in
-      record {
-        tables = so-far .cleared
-            ∙ ap (λ (k : ℕ). eachTable (λ field before. over (take from before ++ replicate k 0) before) room) all;
-      }
+      so-far .cleared ∙ ap (λ (k : ℕ). eachTable (λ field before. over (take from before ++ replicate k 0) before) room) all

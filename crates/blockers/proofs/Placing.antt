@@ -25,7 +25,7 @@ use Rattle.machine.proofs.LentTables.{
   read-part,
   read-back-table,
 }
-use Rattle.blockers.specs.Room.{HoldsRoom, tableOf, Placed, Put, over, ClosedUp}
+use Rattle.blockers.specs.Room.{HoldsRoom, tableOf, putAt, over, ClosedUp}
 use Rattle.blockers.proofs.Over.{over-behind, over-drop}
 use Rattle.blockers.proofs.Closing.{AsLong, tables-within, same-blocker}
 
@@ -82,28 +82,28 @@ holds-fewer l h = record {
   in-entered = omega (arith, h .in-entered);
 }
 
-module _ {held : ℕ} {room room′ : BlockerRoom} where
+module _ (held : ℕ) (room : BlockerRoom) {room′ : BlockerRoom} where
   -- The blockers in use are the new ones, and any part of them stands where it stands in the list.
-  placed-part : (first part rest : List Blocker) → Placed held (first ++ part ++ rest) room room′
+  placed-part : (first part rest : List Blocker) → room′ ≡ withTable held (first ++ part ++ rest) room
       → blockersFrom room′ (length part) (length first) ≡ part
   placed-part first part rest new =
-      ap (λ (r : BlockerRoom). blockersFrom r (length part) (length first)) (new .tables) ∙ read-part held first part rest room
+      ap (λ (r : BlockerRoom). blockersFrom r (length part) (length first)) new ∙ read-part held first part rest room
 
-  pub placed-table : (table : List Blocker) → Placed held table room room′ → tableOf (length table) room′ ≡ table
-  placed-table table new = ap (λ (r : BlockerRoom). tableOf (length table) r) (new .tables) ∙ read-back-table table held room
+  pub placed-table : (table : List Blocker) → room′ ≡ withTable held table room → tableOf (length table) room′ ≡ table
+  placed-table table new = ap (λ (r : BlockerRoom). tableOf (length table) r) new ∙ read-back-table table held room
 
-  pub placed-first : (first rest : List Blocker) → Placed held (first ++ rest) room room′ → blockersFrom room′ (length first) 0 ≡ first
+  pub placed-first : (first rest : List Blocker) → room′ ≡ withTable held (first ++ rest) room → blockersFrom room′ (length first) 0 ≡ first
   placed-first first rest new = placed-part [] first rest new
 
-  pub placed-rest : (first rest : List Blocker) → Placed held (first ++ rest) room room′ → blockersFrom room′ (length rest) (length first) ≡ rest
+  pub placed-rest : (first rest : List Blocker) → room′ ≡ withTable held (first ++ rest) room → blockersFrom room′ (length rest) (length first) ≡ rest
   placed-rest first rest new =
-      placed-part first rest [] (subst (λ (all : List Blocker). Placed held all room room′) (sym (append-nil (first ++ rest))) new)
+      placed-part first rest [] (subst (λ (all : List Blocker). room′ ≡ withTable held all room) (sym (append-nil (first ++ rest))) new)
 
   -- The tables are as long as before.
-  pub placed-long : (table : List Blocker) → Placed held table room room′ → HoldsRoom held room → HoldsRoom (length table) room → AsLong room room′
+  pub placed-long : (table : List Blocker) → room′ ≡ withTable held table room → HoldsRoom held room → HoldsRoom (length table) room → AsLong room room′
   unfolding withTable
   placed-long table new holds fits =
-      subst (AsLong room) (sym (new .tables))
+      subst (AsLong room) (sym new)
       (record {
         masks = long maskOf (room .masks) (holds .read .in-masks) (fits .read .in-masks);
         levels = long levelOf (room .levels) (holds .read .in-levels) (fits .read .in-levels);
@@ -146,12 +146,9 @@ module _ {Y : Blocker} {held end : ℕ} {room room′ : BlockerRoom} (closed : C
   pub close-count : end ≡ length (staying Y (tableOf held room))
   close-count = omega (arith, closed .count, ap length whole)
 
-  pub close-placed : Placed held (staying Y (tableOf held room)) room room′
+  pub close-placed : room′ ≡ withTable held (staying Y (tableOf held room)) room
   unfolding withTable
-  close-placed = record {
-    tables = closed .tables
-        ∙ tables-same _ (λ field before. placed held (column field (staying Y (tableOf held room))) before) room in-place;
-  }
+  close-placed = closed .tables ∙ tables-same _ (λ field before. placed held (column field (staying Y (tableOf held room))) before) room in-place
     where
       in-place : (field : Blocker → ℕ) (before : List ℕ)
           → over (column field (staying Y (blockersFrom room (held - 0) 0)) ++ replicate (held - end) 0) before
@@ -202,16 +199,15 @@ placed-more old to start end new more before s e o t =
     ∙ ap (λ (n : ℕ). over (new ++ more ++ replicate (to - n) 0) before) count
     ∙ sym (placed-over to (new ++ more) before)
 
-module _ {held : ℕ} {table : List Blocker} {room room′ : BlockerRoom} (new : Placed held table room room′) where
+module _ (held : ℕ) (table : List Blocker) {room room′ : BlockerRoom} (new : room′ ≡ withTable held table room) where
   -- one more blocker, right behind them
-  pub placed-put : {Y : Blocker} {at : ℕ} {room″ : BlockerRoom} → Put Y at room′ room″ → at ≡ length table
-      → HoldsRoom held room → HoldsRoom (suc at) room → Placed held (table ++ Y ∷ []) room room″
-  unfolding column withTable
-  placed-put {Y} {at} put e holds fits = record {
-    tables = put .tables
-        ∙ ap (λ (r : BlockerRoom). eachTable (λ field before. set before at (field Y)) r) (new .tables)
-        ∙ tables-within (holds-both holds fits) _ (λ field before. placed held (column field (table ++ Y ∷ [])) before) store;
-  }
+  pub placed-put : (Y : Blocker) (at : ℕ) {room″ : BlockerRoom} → room″ ≡ putAt Y at room′ → at ≡ length table
+      → HoldsRoom held room → HoldsRoom (suc at) room → room″ ≡ withTable held (table ++ Y ∷ []) room
+  unfolding column withTable putAt
+  placed-put Y at put e holds fits =
+      put
+      ∙ ap (λ (r : BlockerRoom). eachTable (λ field before. set before at (field Y)) r) new
+      ∙ tables-within (holds-both holds fits) _ (λ field before. placed held (column field (table ++ Y ∷ [])) before) store
     where
       store : (field : Blocker → ℕ) (before : List ℕ) → max held (suc at) ≤ length before
           → set (placed held (column field table) before) at (field Y) ≡ placed held (column field (table ++ Y ∷ [])) before
@@ -226,7 +222,7 @@ module _ {held : ℕ} {table : List Blocker} {room room′ : BlockerRoom} (new :
     unfolding withTable
     as-before =
         blockers-behind room room′ (to - from) from (λ i g.
-        ap (λ (r : BlockerRoom). blockerAt r i) (new .tables)
+        ap (λ (r : BlockerRoom). blockerAt r i) new
         ∙ same-blocker holds (λ field before. placed held (column field table) before) i (λ field before k.
         placed-further held (column field table) before i (omega arith) (omega (arith, column-length field table))))
 
@@ -239,14 +235,13 @@ module _ {held : ℕ} {table : List Blocker} {room room′ : BlockerRoom} (new :
           length-append table (staying Y (blockersFrom room (to - from) from)),
         )
 
-    pub close-behind : from ≤ to → Placed to (table ++ staying Y (blockersFrom room (to - from) from)) room room″
+    pub close-behind : from ≤ to → room″ ≡ withTable to (table ++ staying Y (blockersFrom room (to - from) from)) room
     unfolding withTable
-    close-behind order = record {
-      tables = closed .tables
-          ∙ ap₂ (λ (r : BlockerRoom) (among : List Blocker).
-          eachTable (λ field before. over (take start before ++ column field (staying Y among) ++ replicate (to - end) 0) before) r) (new .tables) as-before
-          ∙ tables-same _ (λ field before. placed to (column field (table ++ staying Y (blockersFrom room (to - from) from))) before) room more;
-    }
+    close-behind order =
+        closed .tables
+        ∙ ap₂ (λ (r : BlockerRoom) (among : List Blocker).
+        eachTable (λ field before. over (take start before ++ column field (staying Y among) ++ replicate (to - end) 0) before) r) new as-before
+        ∙ tables-same _ (λ field before. placed to (column field (table ++ staying Y (blockersFrom room (to - from) from))) before) room more
       where
         more : (field : Blocker → ℕ) (before : List ℕ)
             → over (take start (placed held (column field table) before) ++ column field (staying Y (blockersFrom room (to - from) from)) ++ replicate (to - end) 0)

@@ -24,21 +24,17 @@ pub record HoldsRoom (held : ℕ) (room : BlockerRoom) : Type 0 where
 abbrev pub tableOf : ℕ → BlockerRoom → List Blocker
 tableOf held room = blockersFrom room held 0
 
--- the room holds `table` in place of its first `held` blockers
-pub record Placed (held : ℕ) (table : List Blocker) (room room′ : BlockerRoom) : Type 0 where
-  pub tables : room′ ≡ withTable held table room
-
--- Y stands at a place. All else is as before.
-pub record Put (Y : Blocker) (place : ℕ) (room room′ : BlockerRoom) : Type 0 where
-  pub tables : room′ ≡ eachTable (λ field before. set before place (field Y)) room
+-- the room with Y at a place
+unfoldable pub putAt : Blocker → ℕ → BlockerRoom → BlockerRoom
+putAt Y place = eachTable (λ field before. set before place (field Y))
 
 -- a table whose first places were written over
 unfoldable pub over : List ℕ → List ℕ → List ℕ
 over front before = front ++ drop (length front) before
 
--- The places from `from` to `to` hold 0. All else is as before.
-pub record Cleared (from to : ℕ) (room room′ : BlockerRoom) : Type 0 where
-  pub tables : room′ ≡ eachTable (λ field before. over (take from before ++ replicate (to - from) 0) before) room
+-- the room with 0 in the places from `from` to `to`
+unfoldable pub clearedBetween : ℕ → ℕ → BlockerRoom → BlockerRoom
+clearedBetween from to = eachTable (λ field before. over (take from before ++ replicate (to - from) 0) before)
 
 -- Of the blockers from `from` to `to`, those that stay for Y stand from `start` on, the last before `end`, and 0 behind them up to `to`: no more than
 -- there were. All else is as before.
@@ -63,7 +59,7 @@ enteredTable places new old = choose (leb (length new) places) new old
 -- what comes of Y that is to enter
 pub record Enters (held : ℕ) (Y : Blocker) (room : BlockerRoom) (answer : Entered) (room′ : BlockerRoom) : Type 0 where
   pub answers : answer ≡ enteredAnswer (length (room .masks)) (entering Y (tableOf held room))
-  pub tables : Placed held (enteredTable (length (room .masks)) (entering Y (tableOf held room)) (tableOf held room)) room room′
+  pub tables : room′ ≡ withTable held (enteredTable (length (room .masks)) (entering Y (tableOf held room)) (tableOf held room)) room
 
 -- "rises to j+1 in place; other subsets of it of level ≤ j+1 leave and the rest close up"
 unfoldable pub risenAmong : List Blocker → Blocker → List Blocker → List Blocker
@@ -78,7 +74,7 @@ risenTable held room place =
 pub record RisesAt (held place : ℕ) (room : BlockerRoom) (held′ place′ : ℕ) (room′ : BlockerRoom) : Type 0 where
   pub count : held′ ≡ length (risenTable held room place)
   pub stands : place′ ≡ length (staying (risen (blockerAt room place)) (blockersFrom room place 0))
-  pub tables : Placed held (risenTable held room place) room room′
+  pub tables : room′ ≡ withTable held (risenTable held room place) room
   pub few : held′ ≤ held
   pub below : place′ < held′
   pub left : held′ - place′ ≤ held - place
@@ -86,5 +82,5 @@ pub record RisesAt (held place : ℕ) (room : BlockerRoom) (held′ place′ : �
 -- What comes of a table of which only the frame is to stay, "the blockers above j": as many as `held′`, and no more than were held.
 pub record Frames (held j : ℕ) (room : BlockerRoom) (held′ : ℕ) (room′ : BlockerRoom) : Type 0 where
   pub count : held′ ≡ length (frame j (tableOf held room))
-  pub tables : Placed held (frame j (tableOf held room)) room room′
+  pub tables : room′ ≡ withTable held (frame j (tableOf held room)) room
   pub few : held′ ≤ held

@@ -12,7 +12,7 @@ ghost use Rattle.lists.specs.Lists.{any};
 ghost use Rattle.machine.specs.Machine.{covers as coversCase};
 ghost use Rattle.machine.specs.Lent.{EvenRoom, blockerOf};
 ghost use Rattle.machine.specs.Lending.{roomNow, roomBefore, roomAfter};
-ghost use Rattle.blockers.specs.Room.{HoldsRoom, Put, ClosedUp, Cleared, Enters, RisesAt, Frames};
+ghost use Rattle.blockers.specs.Room.{HoldsRoom, putAt, clearedBetween, ClosedUp, Enters, RisesAt, Frames};
 
 // A level's number.
 pub struct Level(pub u32);
@@ -113,7 +113,7 @@ fn put(
     step: u64,
 )
     requires { ⌜ HoldsRoom (place + 1) (roomNow masks levels entered) ⌝ }
-    ensures { λ _. ⌜ Put (record { mask = mask; level = level .0; entered = step }) place (roomBefore masks levels entered) (roomAfter masks levels entered) ⌝ }
+    ensures { λ _. ⌜ roomAfter masks levels entered ≡ putAt (record { mask = mask; level = level .0; entered = step }) place (roomBefore masks levels entered) ⌝ }
 {
     masks[place] = mask;
     levels[place] = level.0;
@@ -129,7 +129,7 @@ pub fn clear_between(
     to: usize,
 )
     requires { ⌜ HoldsRoom to (roomNow masks levels entered) ⌝ }
-    ensures { λ r. ⌜ Cleared from to (roomBefore masks levels entered) (roomAfter masks levels entered) ⌝ }
+    ensures { λ r. ⌜ roomAfter masks levels entered ≡ clearedBetween from to (roomBefore masks levels entered) ⌝ }
 {
     let mut i = from;
     while i < to {

@@ -28,7 +28,7 @@ use Rattle.blockers.proofs.Placing.{even-holds, placed-table, placed-long}
 use Rattle.blockers.proofs.Changes.{held-room, held-count, held-fits, held-placed, full-room, full-room-stays}
 use Rattle.choices.specs.Found.{choiceOf}
 use Rattle.choices.specs.declared.Choice.{Choice}
-use Rattle.pending.specs.Room.{Holds as HoldsWord}
+use Rattle.wordroom.specs.Room.{Holds as HoldsWord}
 use Rattle.checker.specs.declared.record.Run.{Run}
 use Rattle.checker.specs.Stage.{stage, choicesOf, madeBy, blockOf, Ready, leftOf, countedOf, blockedOf, Leaves, Unpends, Pends, Countable}
 use Rattle.checker.proofs.Stages.{ready-holds, stopped-is}
@@ -132,12 +132,12 @@ module _ (initial finals : ℕ) {room : BlockerRoom} {word : WordRoom} {run : Ru
     block-fits : HoldsRoom held room′
     unfolding new
     block-fits =
-        long-holds (placed-long new (held-placed enters′ e) (ready-holds ready) (even-holds (ready .blocker-room) new-fits))
+        long-holds (placed-long (run .held) room new (held-placed enters′ e) (ready-holds ready) (even-holds (ready .blocker-room) new-fits))
         (even-holds (ready .blocker-room) (held-fits enters′ e))
 
     table-is : tableOf held room′ ≡ new
     unfolding new
-    table-is = ap (λ (k : ℕ). tableOf k room′) (held-count enters′ e) ∙ placed-table new (held-placed enters′ e)
+    table-is = ap (λ (k : ℕ). tableOf k room′) (held-count enters′ e) ∙ placed-table (run .held) room new (held-placed enters′ e)
 
     pub block-held : {word′ : WordRoom} {r : Run}
         → Unpends run held (choice .hinted) (pendingAfter initial (finals ∷ []) (blockersFrom (unstampedRoom (room′ .masks) (room′ .levels)) held 0) (run .level .0) (pendingFirst word (run .pending - 1)))
@@ -148,7 +148,7 @@ module _ (initial finals : ℕ) {room : BlockerRoom} {word : WordRoom} {run : Ru
     unfolding madeBy judge choose blockStep entering after tablesAfter wordLeft recordOf numberOf new Y
     block-held leaves =
         let leaves′ = rw (same-after (unstamped-blocks initial room′ held 0) (finals ∷ []) (run .level .0) (pendingFirst word (run .pending - 1)), table-is) at leaves in
-        rw (held-placed enters′ e .tables, leaves′ .word-is, leaves′ .record-is, held-count enters′ e, add-one (run .steps), add-one (run .blocks))
+        rw (held-placed enters′ e, leaves′ .word-is, leaves′ .record-is, held-count enters′ e, add-one (run .steps), add-one (run .blocks))
         (sym (rw (held-room enters′ e)))
 
 -- so masks and levels may be read

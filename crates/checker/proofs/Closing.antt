@@ -45,7 +45,7 @@ module _ {S : System} {room : BlockerRoom} {word : WordRoom} {run r : Run} (noth
       → comesTo n ≡ oneMore (configurationOf (stage room word run)) (closedBy S (run .level .0) (tableOf (run .held) room)) (run .level .0) false []
       → stage room′ word r ≡ after (stage room word run) n
   unfolding after tablesAfter recordOf
-  shown n number stays e = rw (closes .tables .tables, closes .record-is, add-one (run .steps), number, nothing, stays, e)
+  shown n number stays e = rw (closes .tables, closes .record-is, add-one (run .steps), number, nothing, stays, e)
 
   at : (o : Option ℕ) → emptyLevel S (run .level .0) (tableOf (run .held) room) ≡ o
       → stage room′ word r ≡ madeBy (closeStep S) (stage room word run)

@@ -18,7 +18,7 @@ use Rattle.machine.proofs.Unstamped.{unstamped-blocks, same-finals}
 use Rattle.blockers.specs.Room.{Holds, tableOf}
 use Rattle.blockers.specs.declared.Level.{Level}
 use Rattle.blockers.proofs.Parts.{part-unstamped}
-use Rattle.pending.specs.Room.{Holds as HoldsWord}
+use Rattle.wordroom.specs.Room.{Holds as HoldsWord}
 use Rattle.checker.specs.declared.record.Run.{Run}
 use Rattle.checker.specs.Stage.{stage, madeBy, Ready, leftOf, countedOf, Leaves, Opened, Pends}
 use Rattle.checker.proofs.Stages.{word-changes, stopped-is}

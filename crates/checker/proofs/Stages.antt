@@ -16,7 +16,7 @@ use Rattle.blockers.specs.Answers.{reasonOf}
 use Rattle.blockers.specs.declared.reasons.Reason.{Reason}
 use Rattle.blockers.proofs.Placing.{own-room, even-holds}
 use Rattle.blockers.proofs.WhyBlocked.{blocked-told}
-use Rattle.pending.specs.Room.{Holds as HoldsWord}
+use Rattle.wordroom.specs.Room.{Holds as HoldsWord}
 use Rattle.checker.specs.declared.record.Run.{Run}
 use Rattle.checker.specs.Stage.{recordIn, stage, Ready, leftOf, Leaves, Pends}
 

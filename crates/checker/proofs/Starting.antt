@@ -14,8 +14,7 @@ use Rattle.machine.specs.Machine.{Blocker, beginning, startAnswer, start}
 use Rattle.machine.specs.Lent.{BlockerRoom, WordRoom, lentOf, zeroed, placed, withWord}
 use Rattle.machine.specs.Runs.{endNumber, numberOf, recordOf, aloneRecord}
 use Rattle.machine.proofs.LentTables.{tables-even, placed-none}
-use Rattle.blockers.specs.Room.{over}
-use Rattle.blockers.specs.Room as Room
+use Rattle.blockers.specs.Room.{over, clearedBetween}
 use Rattle.checker.specs.declared.record.Run.{Run}
 use Rattle.checker.specs.Stage.{recordIn}
 use Rattle.checker.specs.Calls.{Checked}
@@ -42,12 +41,12 @@ all-cleared before =
     let whole : length before ≤ length before = omega arith in
     rw (length-replicate, sub-zero, drop-of-length-le before whole, append-nil)
 
-pub cleared-is : {room room′ : BlockerRoom} {word word′ : WordRoom} → Checked room word → Room.Cleared 0 (length (room .masks)) room room′
+pub cleared-is : {room room′ : BlockerRoom} {word word′ : WordRoom} → Checked room word → room′ ≡ clearedBetween 0 (length (room .masks)) room
     → word′ ≡ withWord (length (word .cases)) [] word → lentOf room′ word′ ≡ zeroed (lentOf room word)
-unfolding withWord
+unfolding withWord clearedBetween
 cleared-is {room} {room′} {word} checked blockers cleared =
     rw (
-      blockers .tables ∙ tables-even _ (λ field before. replicate (length before) 0) room (checked .blocker-room) zeros,
+      blockers ∙ tables-even _ (λ field before. replicate (length before) 0) room (checked .blocker-room) zeros,
       cleared,
       placed-none (word .cases),
       ap (λ (k : ℕ). placed k [] (word .symbols)) (checked .word-room) ∙ placed-none (word .symbols),

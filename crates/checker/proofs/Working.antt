@@ -29,7 +29,7 @@ use Rattle.blockers.proofs.Parts.{part-alike}
 use Rattle.choices.specs.Found.{foundOf}
 use Rattle.choices.specs.declared.Found.{Found}
 use Rattle.choices.specs.declared.Found.the-variants.{At, Nothing}
-use Rattle.pending.specs.Room.{Holds as HoldsWord}
+use Rattle.wordroom.specs.Room.{Holds as HoldsWord}
 use Rattle.checker.specs.declared.record.Run.{Run}
 use Rattle.checker.specs.Stage.{stage, choicesOf, madeBy, blockOf, Ready, countedOf, Leaves, Extended}
 use Rattle.checker.proofs.Stages.{ready-holds, word-changes}

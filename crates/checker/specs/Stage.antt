@@ -9,11 +9,11 @@ use Rattle.lists.specs.Tests.{choose}
 use Rattle.automata.specs.Image.{initialOf, finalOf}
 use Rattle.machine.specs.System.{System}
 use Rattle.machine.specs.Machine.{Pending, Configuration, Given, Step, judge, wordOf, blockStep, chosen}
-use Rattle.machine.specs.Lent.{BlockerRoom, EvenRoom, WordRoom, lentOf, withPending, withWord}
+use Rattle.machine.specs.Lent.{BlockerRoom, EvenRoom, WordRoom, lentOf, withTable, withPending, withWord}
 use Rattle.machine.specs.Runs.{Terms, RunRecord, Stage, systemOf, roomsOf, stepGiven}
 use Rattle.machine.specs.Records.{configurationOf, after, workingStep}
 use Rattle.machine.specs.Promises.{Unbroken}
-use Rattle.blockers.specs.Room.{tableOf, Placed}
+use Rattle.blockers.specs.Room.{tableOf}
 use Rattle.closing.specs.Close.{isEmpty, emptyLevel, closedBy}
 use Rattle.checker.specs.declared.record.Run.{Run}
 
@@ -118,7 +118,7 @@ closedOf run answer held = record {
 pub record ClosesLevel (S : System) (run r : Run) (room room′ : BlockerRoom) : Type 0 where
   pub record-is : r ≡ closedOf run (choose (isEmpty (emptyLevel S (run .level .0) (tableOf (run .held) room))) 0 6)
       (length (closedBy S (run .level .0) (tableOf (run .held) room)))
-  pub tables : Placed (run .held) (closedBy S (run .level .0) (tableOf (run .held) room)) room room′
+  pub tables : room′ ≡ withTable (run .held) (closedBy S (run .level .0) (tableOf (run .held) room)) room
 
 -- what is left where the blockers stay: this record, and this word room
 pub record Leaves (run : Run) (word : WordRoom) (r : Run) (word′ : WordRoom) : Type 0 where

@@ -18,7 +18,7 @@ ghost use Rattle.checker.specs.Calls.{Checked};
 ghost use Rattle.checker.specs.Moments.{stageAfter, keptAfter};
 
 // A run that has made no step: this answer, and 0 in the other fields.
-pub(crate) fn alone(answer: u8) -> Run
+pub fn alone(answer: u8) -> Run
     ensures { λ r. ⌜ recordIn r ≡ aloneRecord answer ⌝ }
 {
     Run {
@@ -58,7 +58,7 @@ fn clear_rooms(
     ensures { λ _. ⌜ lentAfter masks levels entered cases symbols ≡ zeroed (lentBefore masks levels entered cases symbols) ⌝ }
 {
     blockers::clear_between(masks, levels, entered, 0, masks.len());
-    pending::clear_first(cases, symbols, cases.len());
+    wordroom::clear_first(cases, symbols, cases.len());
 }
 
 // The begin on a valid image: refused where the rooms or the terms are, else the start, in cleared tables.

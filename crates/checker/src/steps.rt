@@ -22,7 +22,7 @@ ghost use Rattle.machine.specs.Runs.{systemOf, stepGiven};
 ghost use Rattle.machine.specs.Records.{workingStep};
 ghost use Rattle.blockers.specs.Room.{Holds, HoldsRoom};
 ghost use Rattle.choices.specs.Found.{choiceOf};
-ghost use Rattle.pending.specs.Room.{Holds as HoldsWord};
+ghost use Rattle.wordroom.specs.Room.{Holds as HoldsWord};
 ghost use Rattle.checker.specs.Stage.{wentOn, choicesOf, madeBy, blockOf, Ready, leftOf, countedOf, Leaves, Opened, Unpends, Extended, ClosesLevel, Pends, Countable};
 ghost use Rattle.checker.specs.Moments.{stageNow, stageBefore, stageAfter};
 
@@ -31,7 +31,7 @@ fn stop(cases: &mut [u64], symbols: &mut [u8], run: Run, number: u8) -> Run
     requires { ⌜ HoldsWord (run .pending) (wordNow cases symbols) ⌝ }
     ensures { λ r. ⌜ Leaves (leftOf run number 0) (withWord (run .pending) [] (wordBefore cases symbols)) r (wordAfter cases symbols) ⌝ }
 {
-    pending::clear_first(cases, symbols, run.pending);
+    wordroom::clear_first(cases, symbols, run.pending);
     run.left(number, 0)
 }
 
@@ -51,7 +51,7 @@ fn pend_final(
     if blockers::reasons::why(initial, masks, levels, level, finals).is_there() {
         return 0;
     }
-    pending::push(cases, symbols, 0, finals, Symbol(0));
+    wordroom::push(cases, symbols, 0, finals, Symbol(0));
     1
 }
 
@@ -119,7 +119,7 @@ fn find_word(cases: &mut [u64], symbols: &mut [u8], run: Run, symbol: Symbol) ->
         (withWord (run .pending) (symbol .0 ∷ wordOf (pendingFirst (wordBefore cases symbols) (run .pending)))
         (wordBefore cases symbols)) r (wordAfter cases symbols) ⌝ }
 {
-    pending::write_word(cases, symbols, run.pending, symbol);
+    wordroom::write_word(cases, symbols, run.pending, symbol);
     run.counted(1, 0)
 }
 
@@ -131,7 +131,7 @@ fn pend_more(cases: &mut [u64], symbols: &mut [u8], run: Run, symbol: Symbol, ca
         (wordBefore cases symbols)) r (wordAfter cases symbols) ⌝ }
 {
     let count = run.pending;
-    pending::push(cases, symbols, count, case, symbol);
+    wordroom::push(cases, symbols, count, case, symbol);
     run.counted(6, count + 1)
 }
 
@@ -173,7 +173,7 @@ fn unpend(
         (wordBefore cases symbols) r (wordAfter cases symbols) ⌝ }
 {
     let rest = run.pending - 1;
-    pending::pop(cases, symbols, run.pending);
+    wordroom::pop(cases, symbols, run.pending);
     let level = run.level;
     let pending = pend_after(
         head.initial,

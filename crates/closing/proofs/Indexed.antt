@@ -69,15 +69,13 @@ all-become {S} {top} {held} {masks} {levels} {levels′} {entered} {count} {room
     omega (arith, column-length levelOf (frame 0 (tableOf held (roomOf masks levels′ entered))), framed .count, framed .few) in
     record {
       count = framed .count ∙ ap length table;
-      tables = record {
-        tables = framed .tables .tables
-            ∙ ap (λ (l : List ℕ). record {
-              masks = placed held (column maskOf (frame 0 (tableOf held (roomOf masks levels′ entered)))) masks;
-              levels = l;
-              entered = placed held (column enteredOf (frame 0 (tableOf held (roomOf masks levels′ entered)))) entered;
-            })
-            (placed-behind held (column levelOf (frame 0 (tableOf held (roomOf masks levels′ entered)))) levels′ levels short (risen .behind))
-            ∙ ap (λ (t : List Blocker). withTable held t (roomOf masks levels entered)) table;
-      };
+      tables = framed .tables
+          ∙ ap (λ (l : List ℕ). record {
+            masks = placed held (column maskOf (frame 0 (tableOf held (roomOf masks levels′ entered)))) masks;
+            levels = l;
+            entered = placed held (column enteredOf (frame 0 (tableOf held (roomOf masks levels′ entered)))) entered;
+          })
+          (placed-behind held (column levelOf (frame 0 (tableOf held (roomOf masks levels′ entered)))) levels′ levels short (risen .behind))
+          ∙ ap (λ (t : List Blocker). withTable held t (roomOf masks levels entered)) table;
       few = framed .few;
     }

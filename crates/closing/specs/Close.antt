@@ -8,8 +8,8 @@ use lib.ListN.{length}
 use Rattle.lists.specs.Lists.{firstFrom}
 use Rattle.machine.specs.System.{System}
 use Rattle.machine.specs.Machine.{Blocker, noneAt, frame}
-use Rattle.machine.specs.Lent.{BlockerRoom}
-use Rattle.blockers.specs.Room.{tableOf, Placed}
+use Rattle.machine.specs.Lent.{BlockerRoom, withTable}
+use Rattle.blockers.specs.Room.{tableOf}
 use Rattle.rising.specs.Risen.{risenBy}
 use Rattle.closing.specs.declared.Lowest.{Lowest}
 use Rattle.closing.specs.declared.Lowest.the-variants.{At, Nothing}
@@ -46,6 +46,6 @@ closedBy S top table = keptBy (risenBy S top table) (emptyLevel S top table)
 -- holds none after the rises.
 pub record Closes (S : System) (top held : ℕ) (room : BlockerRoom) (answer : Closed) (room′ : BlockerRoom) : Type 0 where
   pub count : answer .held ≡ length (closedBy S top (tableOf held room))
-  pub tables : Placed held (closedBy S top (tableOf held room)) room room′
+  pub tables : room′ ≡ withTable held (closedBy S top (tableOf held room)) room
   pub few : answer .held ≤ held
   pub answers : answer .empty ≡ isEmpty (emptyLevel S top (tableOf held room))

@@ -1,6 +1,15 @@
 // The program: reads an image from standard input, decides emptiness, and prints the five numbers of the run and then the frame or the word.
 // Proved of it is that it is safe and ends; what it prints is tried by running.
+use automata::image::Image;
 use checker::record::Run;
+
+// The number of an image that was taken apart: 0 for one that holds an automaton.
+fn number_of(read: Image) -> u8 {
+    match read {
+        Image::Valid(_) => 0,
+        Image::Refused(number) => number,
+    }
+}
 
 // A number in decimal; one of 64 bits has at most 20 digits.
 fn print_number(number: u64) {
@@ -69,6 +78,12 @@ fn main() {
     // One byte more than the longest image has, so that a longer input is refused.
     let mut bytes = [0u8; 37397];
     let size = io::read_full(0, &mut bytes);
+    let read = automata::image::read_image(&bytes[..size]);
+    let Image::Valid(_head) = read else {
+        print_counts(checker::begin::alone(number_of(read)));
+        io::write_all(1, b"\n");
+        return;
+    };
     let mut masks = [0u64; 256];
     let mut levels = [0u32; 256];
     let mut entered = [0u64; 256];

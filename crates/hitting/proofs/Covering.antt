@@ -53,8 +53,8 @@ module _ (n initial : ℕ) (masks levels : List ℕ) (below X P : ℕ) (inside :
             arith,
             first .counted,
             blockers-length (unstampedRoom masks levels) (min (length masks) (length levels)) 0,
-            ap length (first .stands),
-            length-append (first .before) (first .blocker ∷ first .after),
+            ap length (first .first .stands),
+            length-append (first .first .before) (first .blocker ∷ first .first .after),
           )
 
       pub cover-place : place < length masks

@@ -57,9 +57,9 @@ outside-subset b P Z out inside = members-subset Z b (λ q i. at q i (decide (me
 first-mask : {table : List Blocker} {i P place level : ℕ} (first : FirstCovering table i P place level)
     → getD (column maskOf table) place 0 ≡ first .blocker .mask
 first-mask {place = place} first =
-    ap (λ (blockers : List Blocker). getD (column maskOf blockers) place 0) (first .stands)
-    ∙ ap (λ (at : ℕ). getD (column maskOf (first .before ++ first .blocker ∷ first .after)) at 0) (first .counted)
-    ∙ column-at maskOf (first .before) (first .blocker) (first .after)
+    ap (λ (blockers : List Blocker). getD (column maskOf blockers) place 0) (first .first .stands)
+    ∙ ap (λ (at : ℕ). getD (column maskOf (first .first .before ++ first .blocker ∷ first .first .after)) at 0) (first .counted)
+    ∙ column-at maskOf (first .first .before) (first .blocker) (first .first .after)
 
 module _ (S : System) (table : List Blocker) (X P Z : ℕ) where
   -- "b [is] X if the backward set lies in X, else the first covering blocker", by the reason why P is blocked
@@ -81,9 +81,9 @@ module _ (S : System) (table : List Blocker) (X P Z : ℕ) where
   covers-too {i = suc i} l first out =
       inBlocker (record {
         blocker = first .blocker;
-        listed = subst (λ (blockers : List Blocker). first .blocker ∈ blockers) (sym (first .stands)) (in-right (first .before) (here refl));
-        high = leb→le _ _ (and-left _ _ (first .covering));
-        inside = outside-subset _ P Z (subst (λ (b : ℕ). Outside b P Z) (first-mask first) out) (and-right _ _ (first .covering));
+        listed = subst (λ (blockers : List Blocker). first .blocker ∈ blockers) (sym (first .first .stands)) (in-right (first .first .before) (here refl));
+        high = leb→le _ _ (and-left _ _ (first .first .passes));
+        inside = outside-subset _ P Z (subst (λ (b : ℕ). Outside b P Z) (first-mask first) out) (and-right _ _ (first .first .passes));
       })
 
   -- an initial state that P lacks, Z lacks

@@ -86,14 +86,16 @@ record Found (table : List Blocker) (i X from place level : ℕ) : Type 0 where
 one-before : {table : List Blocker} {i X at level : ℕ} (blocker : Blocker) → covers i X blocker ≡ false → FirstCovering table i X at level
     → FirstCovering (blocker ∷ table) i X (suc at) level
 one-before blocker misses r = record {
-  before = blocker ∷ r .before;
   blocker = r .blocker;
-  after = r .after;
-  stands = ap (λ (rest : List Blocker). blocker ∷ rest) (r .stands);
+  first = record {
+    before = blocker ∷ r .first .before;
+    after = r .first .after;
+    stands = ap (λ (rest : List Blocker). blocker ∷ rest) (r .first .stands);
+    passes = r .first .passes;
+    none-before = each-more (fails misses) (r .first .none-before);
+  };
   counted = ap suc (r .counted);
   its-level = r .its-level;
-  covering = r .covering;
-  first = each-more (fails misses) (r .first);
 }
 
 covering-first : (i X from : ℕ) (table : List Blocker) (place level : ℕ) → firstCovering i X from table ≡ byBlocker place level
@@ -112,14 +114,10 @@ covering-first i X from (blocker ∷ table) place level e = step (covering-first
           at = 0;
           counted = omega arith;
           first = record {
-            before = [];
             blocker = blocker;
-            after = table;
-            stands = refl;
+            first = record { before = []; after = table; stands = refl; passes = holds q; none-before = λ earlier m. absurd (in-none m) };
             counted = refl;
             its-level = sym its;
-            covering = holds q;
-            first = λ earlier m. absurd (in-none m);
           };
         }
     step rec false q =

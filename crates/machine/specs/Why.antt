@@ -2,12 +2,11 @@
 use Prim.Native.Nat.{ℕ, zero, suc, _<_}
 use mathlib.Core.Path.{_≡_}
 use mathlib.Core.Bool.{Bool, true, false}
-use mathlib.Core.List.{List, [], _∷_, _++_}
+use mathlib.Core.List.{List, [], _∷_}
 use mathlib.Core.Option.{Option, none, some}
-use lib.Dec.{T}
 use lib.ListN.{length}
 use Rattle.lists.specs.Tests.{choose}
-use Rattle.lists.specs.Lists.{Each}
+use Rattle.lists.specs.Lists.{IsFirst}
 use Rattle.masks.specs.Sets.{Member, lowestAbsent}
 use Rattle.machine.specs.Machine.{Blocker, covers}
 
@@ -41,14 +40,10 @@ why initial table (suc i) X = firstCovering (suc i) X 0 table
 
 -- "the first covering blocker in table order": the blocker at the place covers the case, none before it does, and the level is its own
 pub record FirstCovering (table : List Blocker) (i X place level : ℕ) : Type 0 where
-  pub before : List Blocker
   pub blocker : Blocker
-  pub after : List Blocker
-  pub stands : table ≡ before ++ blocker ∷ after
-  pub counted : place ≡ length before
+  pub first : IsFirst (covers i X) table blocker
+  pub counted : place ≡ length (first .before)
   pub its-level : level ≡ blocker .level
-  pub covering : T (covers i X blocker)
-  pub first : Each (λ earlier. T (covers i X earlier) → ⊥) before
 
 -- "the lowest initial state absent": it is initial and not in the case, and no lower one is so
 pub record LowestAbsent (initial X q : ℕ) : Type 0 where

@@ -17,18 +17,18 @@ use Rattle.rising.specs.Risen.{Becomes}
 becomes-own : {held : ℕ} {room : BlockerRoom} → HoldsRoom held room → Becomes held (tableOf held room) room held room
 becomes-own {held} {room} holds = record {
   count = sym (blockers-length room held 0);
-  tables = record { tables = sym (own-room holds) };
+  tables = sym (own-room holds);
   few = omega arith;
 }
 
 module _ {held : ℕ} {table : List Blocker} {room : BlockerRoom} {held′ : ℕ} {room′ : BlockerRoom} (becomes : Becomes held table room held′ room′) where
   -- the blockers in use are the new ones
   pub becomes-table : tableOf held′ room′ ≡ table
-  becomes-table = ap (λ (count : ℕ). tableOf count room′) (becomes .count) ∙ placed-table table (becomes .tables)
+  becomes-table = ap (λ (count : ℕ). tableOf count room′) (becomes .count) ∙ placed-table held room table (becomes .tables)
 
   -- they still fit, and the tables are as long as before
   becomes-long : HoldsRoom held room → AsLong room room′
-  becomes-long holds = placed-long table (becomes .tables) holds (holds-fewer (omega (arith, becomes .count, becomes .few)) holds)
+  becomes-long holds = placed-long held room table (becomes .tables) holds (holds-fewer (omega (arith, becomes .count, becomes .few)) holds)
 
   pub becomes-holds : HoldsRoom held room → HoldsRoom held′ room′
   becomes-holds holds = holds-fewer (becomes .few) (long-holds (becomes-long holds) holds)
@@ -39,11 +39,9 @@ module _ {held : ℕ} {table : List Blocker} {room : BlockerRoom} {held′ : ℕ
   unfolding withTable
   becomes-further {table′} {held″} {room″} further = record {
     count = further .count;
-    tables = record {
-      tables = further .tables .tables
-          ∙ ap (λ (r : BlockerRoom). withTable held′ table′ r) (becomes .tables .tables)
-          ∙ tables-same _ (λ field before. placed held (column field table′) before) room joined;
-    };
+    tables = further .tables
+        ∙ ap (λ (r : BlockerRoom). withTable held′ table′ r) (becomes .tables)
+        ∙ tables-same _ (λ field before. placed held (column field table′) before) room joined;
     few = omega (arith, further .few, becomes .few);
   }
     where

@@ -5,8 +5,7 @@ use mathlib.Core.List.{List, []}
 use lib.ListN.{length}
 use Rattle.machine.specs.System.{System}
 use Rattle.machine.specs.Machine.{Blocker, riseAlong, riseLevels}
-use Rattle.machine.specs.Lent.{BlockerRoom}
-use Rattle.blockers.specs.Room.{Placed}
+use Rattle.machine.specs.Lent.{BlockerRoom, withTable}
 
 -- the blockers after the rises at level j
 abbrev pub risenAt : System → ℕ → List Blocker → List Blocker
@@ -19,5 +18,5 @@ risenBy S top table = riseLevels S top 1 table
 -- What comes of a room in which `table` is to stand for the first `held` entries: as many blockers as `held′`, and no more than were held.
 pub record Becomes (held : ℕ) (table : List Blocker) (room : BlockerRoom) (held′ : ℕ) (room′ : BlockerRoom) : Type 0 where
   pub count : held′ ≡ length table
-  pub tables : Placed held table room room′
+  pub tables : room′ ≡ withTable held table room
   pub few : held′ ≤ held

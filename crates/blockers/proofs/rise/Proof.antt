@@ -11,8 +11,11 @@ close-up-requires-2 c κs =
     let risen : tie.After-put = search in
     let passed : tie.After-close-up = search in
     let read : tie.After-above = search in
-    let start : tie.Start = search in
-    rise-behind (start .pre) (read .above .ensures) (passed .close-up .ensures) (risen .put .ensures)
+    let start : tie.Start = search in (
+      search (start .pre, needs),
+      search (start .pre, needs),
+      rise-behind (start .pre) (read .above .ensures) (passed .close-up .ensures) _ (risen .put .ensures),
+    )
 
 returns : tie.Need-returns
 returns c =

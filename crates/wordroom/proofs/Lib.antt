@@ -1,2 +1,2 @@
 -- Laws of the word room.
-pub mod WordRoom
+pub mod Changes

@@ -1,7 +1,7 @@
-use Rattle.pending.proofs.WordRoom.{popped}
+use Rattle.wordroom.proofs.Changes.{popped}
 use borrow.Author.Needs.{needs}
-use Rattle.pending.proofs.pop.Statement.{statement}
-use Rattle.pending.proofs.pop.Tie as tie
+use Rattle.wordroom.proofs.pop.Statement.{statement}
+use Rattle.wordroom.proofs.pop.Tie as tie
 
 returns : tie.Need-returns
 returns c = search (popped, needs)

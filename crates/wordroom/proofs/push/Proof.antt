@@ -1,7 +1,7 @@
-use Rattle.pending.proofs.WordRoom.{pushed}
+use Rattle.wordroom.proofs.Changes.{pushed}
 use borrow.Author.Needs.{needs}
-use Rattle.pending.proofs.push.Statement.{statement}
-use Rattle.pending.proofs.push.Tie as tie
+use Rattle.wordroom.proofs.push.Statement.{statement}
+use Rattle.wordroom.proofs.push.Tie as tie
 
 returns : tie.Need-returns
 returns c = search (pushed, needs)

@@ -1,9 +1,9 @@
 use Rattle.machine.specs.Lent.{wordRoomOf}
-use Rattle.pending.proofs.WordRoom.{ClearingBoth, both-start, both-next, both-end}
+use Rattle.wordroom.proofs.Changes.{ClearingBoth, both-start, both-next, both-end}
 use Prim.Native.Nat.{_-_}
 use borrow.Author.Needs.{needs}
-use Rattle.pending.proofs.clear_first.Statement.{statement}
-use Rattle.pending.proofs.clear_first.Tie as tie
+use Rattle.wordroom.proofs.clear_first.Statement.{statement}
+use Rattle.wordroom.proofs.clear_first.Tie as tie
 
 abbrev Inv-loop : tie.InvT-loop
 Inv-loop cases₀ symbols₀ count at₀ cases symbols at = ClearingBoth count (wordRoomOf cases₀ symbols₀) (wordRoomOf cases symbols) at

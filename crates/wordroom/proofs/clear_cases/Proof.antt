@@ -1,8 +1,8 @@
 use borrow.Author.Needs.{needs}
 use Prim.Native.Nat.{_-_}
-use Rattle.pending.proofs.WordRoom.{Clearing, clearing-starts, clearing-next, clearing-ends}
-use Rattle.pending.proofs.clear_cases.Statement.{statement}
-use Rattle.pending.proofs.clear_cases.Tie as tie
+use Rattle.wordroom.proofs.Changes.{Clearing, clearing-starts, clearing-next, clearing-ends}
+use Rattle.wordroom.proofs.clear_cases.Statement.{statement}
+use Rattle.wordroom.proofs.clear_cases.Tie as tie
 
 abbrev Inv-loop : tie.InvT-loop
 Inv-loop cases₀ count at₀ cases at = Clearing count cases₀ cases at

@@ -23,7 +23,7 @@ use Rattle.machine.specs.Machine.{wordOf}
 use Rattle.machine.specs.Lent.{WordRoom, wordRoomOf, pendingFirst, columnBack, placed, withPending, withWord}
 use Rattle.machine.proofs.LentTables.{cases-front, symbols-front, placed-exact}
 use Rattle.bytes.specs.Bytes.{rev, slice}
-use Rattle.pending.specs.Room.{Holds}
+use Rattle.wordroom.specs.Room.{Holds}
 
 -- a value behind the first `count` entries
 one-more : (table : List ℕ) (count value : ℕ) → count + 1 ≤ length table → set table count value ≡ placed count (take count table ++ value ∷ []) table

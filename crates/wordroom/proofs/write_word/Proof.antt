@@ -1,7 +1,7 @@
-use Rattle.pending.proofs.WordRoom.{word-written, kept-after-store}
+use Rattle.wordroom.proofs.Changes.{word-written, kept-after-store}
 use borrow.Author.Needs.{needs}
-use Rattle.pending.proofs.write_word.Statement.{statement}
-use Rattle.pending.proofs.write_word.Tie as tie
+use Rattle.wordroom.proofs.write_word.Statement.{statement}
+use Rattle.wordroom.proofs.write_word.Tie as tie
 
 same-length-2 : tie.Need-same-length-2
 same-length-2 c = search (kept-after-store, needs)

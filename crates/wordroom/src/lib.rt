@@ -8,7 +8,7 @@ ghost use lib.ListN.{length};
 ghost use Rattle.machine.specs.Machine.{wordOf};
 ghost use Rattle.machine.specs.Lent.{pendingFirst, placed, withPending, withWord};
 ghost use Rattle.machine.specs.Lending.{wordNow, wordBefore, wordAfter};
-ghost use Rattle.pending.specs.Room.{Holds};
+ghost use Rattle.wordroom.specs.Room.{Holds};
 
 // One more pending case, below the others, with the symbol that led to it.
 pub fn push(cases: &mut [u64], symbols: &mut [u8], count: usize, case: u64, symbol: Symbol)
