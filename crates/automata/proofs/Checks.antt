@@ -1,22 +1,23 @@
--- The checks of an image: what each loop of the reader has found, and which number each way through the checks answers. Assumes nothing.
+-- The checks of an image: what each loop of the reader has found, the tests by what was read and called, and the numbers that they answer. Assumes nothing.
 use Prim.Native.Nat.{ℕ, _+_, _-_, _*_, _%_, _≤_, _<_}
-use mathlib.Core.Path.{_≡_, refl, sym, ap, _∙_}
+use mathlib.Core.Path.{_≡_, sym, ap, _∙_}
 use mathlib.Core.Bool.{Bool, true, false, not}
 use mathlib.Core.List.{List}
 use mathlib.Core.Logic.{_⊎_, inl, inr}
 use native.Mathlib.Nat.{sub-zero}
 use native.Mathlib.Numerals.{add-one}
 use native.Mathlib.Omega.{arith}
+use borrow.Author.Needs.{needs}
 use borrow.Author.Tests.{eq-eqb, ne-eqb, lt-ltb, le-ltb, not-true, not-false}
 use lib.Dec.{eqb, ltb}
 use lib.ListN.{length}
-use Rattle.lists.specs.Tests.{_and_, _or_, neg}
+use Rattle.lists.specs.Tests.{_and_, neg}
 use Rattle.lists.specs.Lists.{eachFrom}
-use Rattle.lists.proofs.Tests.{neg-is-not}
 use Rattle.lists.proofs.Lists.{each-from-fails, each-from-holds, each-from-ends}
 use Rattle.masks.specs.Sets.{within}
-use Rattle.automata.specs.Image.{statesOf, symbolsOf, rowCountOf, initialOf, finalOf, offsetOf, sizeOf, rowAt}
+use Rattle.automata.specs.Image.{statesOf, symbolsOf, rowCountOf, offsetOf, sizeOf, rowAt}
 use Rattle.automata.specs.Image.{spanStart, pairHolds, pairsHold, rowHolds, rowsHold, outside, check, checkImage}
+use Rattle.automata.proofs.Chained.{checks}
 
 -- the loop over the pairs, before that of symbol s: where its span is to start, and what is still to be tested
 pub record PairsLeft (image : List ℕ) (start s : ℕ) : Type 0 where
@@ -103,146 +104,30 @@ module _ {image : List ℕ} {rows i : ℕ} (left : RowsLeft image rows i) where
   unfolding rowsHold
   rows-end l = rw (← left .count, ← left .rest, each-from-ends (rowHolds image) rows i l)
 
--- a number outside 1 to 64, by the two tests
-pub outside-zero : (number : ℕ) → number ≡ 0 → true ≡ outside number
-unfolding outside _or_
-outside-zero number e = rw e
+-- the tests of the checks, where r is a number that was read or what a call answered
+pub read-above : (a b r : ℕ) (value : Bool) → r ≡ b → ltb a r ≡ value → ltb a b ≡ value
+read-above a b r value e q = rw (← e) q
 
-pub outside-above : (number : ℕ) → (number ≡ 0 → ⊥) → ltb 64 number ≡ outside number
-unfolding outside _or_
-outside-above number n = rw (ne-eqb number 0 n)
+pub read-whole : (size a b c k m r s : ℕ) (value : Bool) → r ≡ k → s ≡ m → eqb size (a + b * r + c * s) ≡ value → eqb size (a + b * k + c * m) ≡ value
+read-whole size a b c k m r s value e q p = rw (← e, ← q) p
 
--- a check that applies answers its number; past one that does not, the later ones answer
-check-applies : {b : Bool} (number later : ℕ) → b ≡ true → number ≡ check b number later
-unfolding check
-check-applies number later e = rw e
+pub read-within : (n case r : ℕ) (value : Bool) → r ≡ case → neg (within n r) ≡ value → neg (within n case) ≡ value
+read-within n case r value e q = rw (← e) q
 
-check-passed : {b : Bool} {answer : ℕ} (number later : ℕ) → b ≡ false → answer ≡ later → answer ≡ check b number later
-unfolding check
-check-passed number later e a = rw e a
+pub called-outside : (number : ℕ) (r value : Bool) → r ≡ outside number → r ≡ value → outside number ≡ value
+called-outside number r value e q = sym e ∙ q
 
-neg-by-not : (b : Bool) {r : Bool} → not b ≡ r → neg b ≡ r
-neg-by-not b e = sym (neg-is-not b) ∙ e
-
--- what the checks from each number on answer
-module _ (image : List ℕ) where
-  from27 : ℕ
-  from27 = check (neg (rowsHold image)) 27 0
-
-  from26 : ℕ
-  from26 = check (neg (pairsHold image)) 26 from27
-
-  from25 : ℕ
-  from25 = check (neg (within (statesOf image) (initialOf image)) or neg (within (statesOf image) (finalOf image))) 25 from26
-
-  from24 : ℕ
-  from24 = check (neg (eqb (length image) (20 + 8 * symbolsOf image + 9 * rowCountOf image))) 24 from25
-
-  from23 : ℕ
-  from23 = check (ltb 4096 (rowCountOf image)) 23 from24
-
-  from22 : ℕ
-  from22 = check (outside (symbolsOf image)) 22 from23
-
-  from21 : ℕ
-  from21 = check (outside (statesOf image)) 21 from22
-
--- The answers, each from the tests that led to it: a section's premises are the tests passed before.
-module _ (image : List ℕ) where
-  pub refuse20 : length image < 20 → 20 ≡ checkImage image
-  unfolding checkImage
-  refuse20 l = check-applies 20 _ (lt-ltb _ _ l)
-
-  module _ (long : 20 ≤ length image) where
-    past20 : {answer : ℕ} → answer ≡ from21 image → answer ≡ checkImage image
-    unfolding checkImage from21 from22 from23 from24 from25 from26 from27
-    past20 e = check-passed 20 (from21 image) (le-ltb _ _ long) e
-
-    pub refuse21 : (a : Bool) → a ≡ outside (statesOf image) → a ≡ true → 21 ≡ checkImage image
-    unfolding from21
-    refuse21 a e t = past20 (check-applies 21 (from22 image) (sym e ∙ t))
-
-    module _ (a : Bool) (ea : a ≡ outside (statesOf image)) (ta : a ≡ false) where
-      past21 : {answer : ℕ} → answer ≡ from22 image → answer ≡ checkImage image
-      unfolding from21
-      past21 e = past20 (check-passed 21 (from22 image) (sym ea ∙ ta) e)
-
-      pub refuse22 : (b : Bool) → b ≡ outside (symbolsOf image) → b ≡ true → 22 ≡ checkImage image
-      unfolding from22
-      refuse22 b e t = past21 (check-applies 22 (from23 image) (sym e ∙ t))
-
-      module _ (b : Bool) (eb : b ≡ outside (symbolsOf image)) (tb : b ≡ false) (rows : ℕ) (er : rows ≡ rowCountOf image) where
-        past22 : {answer : ℕ} → answer ≡ from23 image → answer ≡ checkImage image
-        unfolding from22
-        past22 e = past21 (check-passed 22 (from23 image) (sym eb ∙ tb) e)
-
-        pub refuse23 : 4096 < rows → 23 ≡ checkImage image
-        unfolding from23
-        refuse23 l = past22 (check-applies 23 (from24 image) (rw (← er) (lt-ltb _ _ l)))
-
-        module _ (few : rows ≤ 4096) (symbols : ℕ) (es : symbols ≡ symbolsOf image) where
-          past23 : {answer : ℕ} → answer ≡ from24 image → answer ≡ checkImage image
-          unfolding from23
-          past23 e = past22 (check-passed 23 (from24 image) (rw (← er) (le-ltb _ _ few)) e)
-
-          pub refuse24 : (length image ≡ 20 + 8 * symbols + 9 * rows → ⊥) → 24 ≡ checkImage image
-          unfolding from24 neg
-          refuse24 n = past23 (check-applies 24 (from25 image) (rw (← er, ← es, ne-eqb _ _ n)))
-
-          module _ (whole : length image ≡ 20 + 8 * symbols + 9 * rows) (initial : ℕ) (ei : initial ≡ initialOf image) where
-            past24 : {answer : ℕ} → answer ≡ from25 image → answer ≡ checkImage image
-            unfolding from24 neg
-            past24 e = past23 (check-passed 24 (from25 image) (rw (← er, ← es, eq-eqb _ _ whole)) e)
-
-            pub refuse25 : (d : Bool) → d ≡ within (statesOf image) initial → not d ≡ true → 25 ≡ checkImage image
-            unfolding from25 _or_
-            refuse25 d e t = past24 (check-applies 25 (from26 image) (rw (← ei, ← e, neg-by-not d t)))
-
-            module _ (d : Bool) (ed : d ≡ within (statesOf image) initial) (td : not d ≡ false) (finals : ℕ) (ef : finals ≡ finalOf image) where
-              pub refuse25′ : (f : Bool) → f ≡ within (statesOf image) finals → not f ≡ true → 25 ≡ checkImage image
-              unfolding from25 _or_
-              refuse25′ f e t = past24 (check-applies 25 (from26 image) (rw (← ei, ← ed, neg-by-not d td, ← ef, ← e, neg-by-not f t)))
-
-              module _ (f : Bool) (eg : f ≡ within (statesOf image) finals) (tf : not f ≡ false) where
-                past25 : {answer : ℕ} → answer ≡ from26 image → answer ≡ checkImage image
-                unfolding from25 _or_
-                past25 e = past24 (check-passed 25 (from26 image) (rw (← ei, ← ed, neg-by-not d td, ← ef, ← eg, neg-by-not f tf)) e)
-
-                pub refuse26 : (p : Bool) → p ≡ pairsHold image → not p ≡ true → 26 ≡ checkImage image
-                unfolding from26
-                refuse26 p e t = past25 (check-applies 26 (from27 image) (rw (← e) (neg-by-not p t)))
-
-                module _ (p : Bool) (ep : p ≡ pairsHold image) (tp : not p ≡ false) where
-                  past26 : {answer : ℕ} → answer ≡ from27 image → answer ≡ checkImage image
-                  unfolding from26
-                  past26 e = past25 (check-passed 26 (from27 image) (rw (← ep) (neg-by-not p tp)) e)
-
-                  pub refuse27 : (q : Bool) → q ≡ rowsHold image → not q ≡ true → 27 ≡ checkImage image
-                  unfolding from27
-                  refuse27 q e t = past26 (check-applies 27 0 (rw (← e) (neg-by-not q t)))
-
-                  pub refuse-none : (q : Bool) → q ≡ rowsHold image → not q ≡ false → 0 ≡ checkImage image
-                  unfolding from27
-                  refuse-none q e t = past26 (check-passed 27 0 (rw (← e) (neg-by-not q t)) refl)
+pub ruleset image-checks = (checks, read-above, read-whole, read-within, called-outside)
 
 -- the checks answer 0 or a number from 20 to 27
-Answer : ℕ → Type 0
-Answer number = (number ≡ 0) ⊎ ((20 ≤ number) × (number ≤ 27))
+abbrev pub CheckNumber : ℕ → Type 0
+CheckNumber number = (number ≡ 0) ⊎ ((20 ≤ number) × (number ≤ 27))
 
-check-answer : (b : Bool) (number later : ℕ) → 20 ≤ number → number ≤ 27 → Answer later → Answer (check b number later)
-unfolding check Answer
-check-answer true number later l h a = inr (l, h)
-check-answer false number later l h a = a
+check-answer : (b : Bool) (number later : ℕ) → 20 ≤ number → number ≤ 27 → CheckNumber later → CheckNumber (check b number later)
+unfolding check
+check-answer true number later l h n = inr (l, h)
+check-answer false number later l h n = n
 
-pub check-number : (image : List ℕ) → (checkImage image ≡ 0) ⊎ ((20 ≤ checkImage image) × (checkImage image ≤ 27))
-unfolding checkImage Answer
-check-number image =
-    check-answer _ 20 _ (omega arith) (omega arith)
-    (check-answer _ 21 _ (omega arith) (omega arith)
-    (check-answer _ 22 _ (omega arith) (omega arith)
-    (check-answer _ 23 _ (omega arith) (omega arith)
-    (check-answer _ 24 _ (omega arith) (omega arith)
-    (check-answer _ 25 _ (omega arith) (omega arith)
-    (check-answer _ 26 _ (omega arith) (omega arith)
-    (check-answer _ 27 _ (omega arith) (omega arith)
-    (inl refl))))))))
+pub check-number : (image : List ℕ) → CheckNumber (checkImage image)
+unfolding checkImage
+check-number image = search (check-answer, inl, needs) depth 14

@@ -1,4 +1,5 @@
 -- Laws that the proofs of functions cite, by subject.
+pub mod Chained
 pub mod Checks
 pub mod ValidImage
 pub mod Reading

@@ -1,22 +1,23 @@
 -- What an image that no check refuses keeps: its sizes, its spans, its rows, and the automaton that it holds. Assumes nothing.
 use Prim.Native.Nat.{ℕ, zero, suc, _+_, _-_, _*_, _/_, _%_, _^_, _≤_, _<_}
 use mathlib.Core.Path.{_≡_, refl, subst}
-use mathlib.Core.Bool.{Bool, true, false}
+use mathlib.Core.Bool.{Bool, false}
 use mathlib.Core.List.{List, []}
 use native.Mathlib.Nat.{le-of-eq, lt-of-lt-of-le}
 use native.Mathlib.Omega.{arith}
-use lib.Dec.{T, eqb, ltb, eqb→eq, ltb→lt}
-use borrow.Author.Tests.{eqb-false, ltb-false, lt-ltb, le-ltb}
+use lib.Dec.{T, eqb, eqb→eq, ltb→lt}
+use borrow.Author.Tests.{eqb-false, lt-ltb, le-ltb}
 use lib.ListN.{length}
 use lib.Pow.{pow-mono}
 use Rattle.lists.specs.Lists.{_∈_, Each}
-use Rattle.lists.proofs.Tests.{is-false, and-left, and-right, or-left, or-right, neg-neg, choose-true, choose-false}
+use Rattle.lists.proofs.Tests.{fails, and-left, and-right, choose-true, choose-false}
 use Rattle.lists.proofs.Lists.{in-none, each-more, each-from-at}
 use Rattle.masks.specs.Sets.{within}
 use Rattle.masks.proofs.Laws.{within-below}
 use Rattle.automata.specs.Image.{Row, Valid, statesOf, symbolsOf, rowCountOf, initialOf, finalOf, offsetOf, sizeOf}
 use Rattle.automata.specs.Image.{rowsStart, spanStart, pairHolds, pairsHold, rowAt, rowsFrom, rowsOf, rowHolds, rowsHold, outside, check, checkImage}
 use Rattle.automata.specs.Automaton.{Automaton, automatonOf}
+use Rattle.automata.proofs.Chained.{test-failed, later-none, passed}
 
 -- what the checks leave of an image that they do not refuse
 pub record Kept (image : List ℕ) : Type 0 where
@@ -39,40 +40,14 @@ pub record RowKept (states : ℕ) (row : Row) : Type 0 where
 
 -- a check that did not apply
 pub check-fails : (b : Bool) (number later : ℕ) → check b (suc number) later ≡ 0 → (T b → ⊥) × (later ≡ 0)
-unfolding check
-check-fails true number later e = absurd (omega arith)
-check-fails false number later e = (λ t. t, e)
+check-fails b number later e = (fails (test-failed b (suc number) later e), later-none b (suc number) later e)
 
-inside : (number : ℕ) → (T (outside number) → ⊥) → (1 ≤ number) × (number ≤ 64)
-unfolding outside
-inside number f =
-    let n : number ≡ 0 → ⊥ = eqb-false number 0 (is-false _ (λ t. f (or-left _ _ t))) in
-    (omega arith, ltb-false 64 number (is-false _ (λ t. f (or-right _ _ t))))
+not-zero : (number : ℕ) → eqb number 0 ≡ false → 1 ≤ number
+not-zero number e = let n : number ≡ 0 → ⊥ = eqb-false number 0 e in omega arith
 
 pub valid-kept : (image : List ℕ) → Valid image → Kept image
-unfolding checkImage
-valid-kept image valid =
-    let p20 = check-fails _ _ _ valid in
-    let p21 = check-fails _ _ _ (p20 .1) in
-    let p22 = check-fails _ _ _ (p21 .1) in
-    let p23 = check-fails _ _ _ (p22 .1) in
-    let p24 = check-fails _ _ _ (p23 .1) in
-    let p25 = check-fails _ _ _ (p24 .1) in
-    let p26 = check-fails _ _ _ (p25 .1) in
-    let p27 = check-fails _ _ _ (p26 .1) in
-    record {
-      long = ltb-false _ _ (is-false _ (p20 .0));
-      some-state = inside _ (p21 .0) .0;
-      states-fit = inside _ (p21 .0) .1;
-      some-symbol = inside _ (p22 .0) .0;
-      symbols-fit = inside _ (p22 .0) .1;
-      few-rows = ltb-false _ _ (is-false _ (p23 .0));
-      whole = eqb→eq _ _ (neg-neg _ (p24 .0));
-      initial-within = neg-neg _ (λ t. p25 .0 (or-left _ _ t));
-      final-within = neg-neg _ (λ t. p25 .0 (or-right _ _ t));
-      pairs = neg-neg _ (p26 .0);
-      rows = neg-neg _ (p27 .0);
-    }
+unfolding checkImage outside
+valid-kept image valid = search (passed, not-zero) depth 14
 
 -- the rows of a symbol are those of its span; a number that is no symbol has none
 module _ (image : List ℕ) (s : ℕ) where

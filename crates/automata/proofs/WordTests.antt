@@ -3,7 +3,7 @@ use Prim.Native.Nat.{ℕ, zero, suc, _+_, _-_, _≤_, _<_}
 use mathlib.Core.Path.{_≡_, refl, sym, ap, _∙_}
 use mathlib.Core.Bool.{Bool, true, false, not}
 use mathlib.Core.List.{List}
-use mathlib.Core.Logic.{_⊎_, inl, inr}
+use mathlib.Core.Logic.{inl, inr}
 use native.Mathlib.Omega.{arith}
 use borrow.Author.Tests.{le-ltb, lt-ltb, not-true, not-false}
 use lib.Dec.{T, ltb, ltb→lt, lt→ltb}
@@ -21,7 +21,7 @@ use Rattle.automata.specs.Answers.{headOf, readWith, readImage}
 use Rattle.automata.specs.declared.image.Head.{Head}
 use Rattle.automata.specs.declared.image.Image.{Image}
 use Rattle.automata.specs.declared.image.Image.the-variants as Answer
-use Rattle.automata.proofs.Checks.{check-number}
+use Rattle.automata.proofs.Checks.{CheckNumber, check-number}
 
 -- the loop over the word's symbols, before symbol i
 pub record SymbolsLeft (word : List ℕ) (symbols i : ℕ) : Type 0 where
@@ -112,7 +112,7 @@ pub refused-high : (image : List ℕ) (answer : Image) → answer ≡ readImage 
 unfolding readImage
 refused-high image answer read number e = at (is-refused image (checkImage image) number (sym read ∙ e)) (check-number image)
   where
-    at : (checkImage image ≡ number) × (0 < checkImage image) → (checkImage image ≡ 0) ⊎ ((20 ≤ checkImage image) × (checkImage image ≤ 27)) → 20 ≤ number
+    at : (checkImage image ≡ number) × (0 < checkImage image) → CheckNumber (checkImage image) → 20 ≤ number
     at r (inl z) = absurd (omega (arith, r .1))
     at r (inr high) = omega (arith, r .0, high .0)
 

@@ -1,7 +1,8 @@
 -- What is known of a joined test, as facts: `T b` is the fact that the test b holds. Assumes nothing.
-use mathlib.Core.Path.{_≡_, refl, sym}
+use mathlib.Core.Path.{_≡_, refl, sym, _∙_}
 use mathlib.Core.Bool.{Bool, true, false, not}
 use mathlib.Core.Logic.{_⊎_, inl, inr}
+use borrow.Author.Tests.{eq-eqb, ne-eqb, lt-ltb, le-ltb, eqb-true, ltb-false}
 use lib.Dec.{T}
 use Rattle.lists.specs.Tests.{_and_, _or_, neg, choose}
 
@@ -98,6 +99,49 @@ pub neg-is-not : (b : Bool) → not b ≡ neg b
 unfolding neg
 neg-is-not true = refl
 neg-is-not false = refl
+
+-- a joined test's value, by those of its parts; r is what a call answered
+pub or-first : (a b : Bool) → a ≡ true → a or b ≡ true
+unfolding _or_
+or-first a b e = rw e
+
+pub or-second : (a b : Bool) → b ≡ true → a or b ≡ true
+unfolding _or_
+or-second true b e = refl
+or-second false b e = e
+
+pub or-rest : (a b value : Bool) → a ≡ false → b ≡ value → a or b ≡ value
+unfolding _or_
+or-rest a b value e q = rw e q
+
+pub neg-true : (b : Bool) → b ≡ false → neg b ≡ true
+unfolding neg
+neg-true b e = rw e
+
+pub neg-false : (b : Bool) → b ≡ true → neg b ≡ false
+unfolding neg
+neg-false b e = rw e
+
+pub neg-called : (b r value : Bool) → r ≡ b → not r ≡ value → neg b ≡ value
+neg-called b r value e q = rw (← e) (sym (neg-is-not r) ∙ q)
+
+-- a test of numbers, joined so, from the facts
+pub ruleset tests = (or-first, or-second, or-rest, neg-called, neg-true, neg-false, eq-eqb, ne-eqb, lt-ltb, le-ltb)
+
+-- the parts of a joined test that came out false
+pub or-left-failed : (a b : Bool) → a or b ≡ false → a ≡ false
+or-left-failed a b e = or-neither a b e .0
+
+pub or-right-failed : (a b : Bool) → a or b ≡ false → b ≡ false
+or-right-failed a b e = or-neither a b e .1
+
+pub neg-failed : (b : Bool) → neg b ≡ false → b ≡ true
+unfolding neg
+neg-failed true e = refl
+neg-failed false e = sym e
+
+-- the facts, from a test of numbers that is joined so and came out false
+pub ruleset facts = (or-left-failed, or-right-failed, neg-failed, holds, eqb-true, ltb-false)
 
 -- a choice, by its test
 pub choose-true : {A : Type 0} {b : Bool} (x y : A) → b ≡ true → choose b x y ≡ x
