@@ -134,10 +134,6 @@ module _ (lent : Lent) (hints : List ℕ) (edition way : ℕ) where
   image-first zero e = refl
   image-first (suc number) e = absurd (omega arith)
 
-  rooms-checked : checkTerms lent hints edition way 0 ≡ 0 → (T (oddRooms lent) → ⊥) × (T (oversize lent hints) → ⊥)
-  unfolding checkTerms
-  rooms-checked e = let odd = check-fails _ _ _ e in (odd .0, check-fails _ _ _ (odd .1) .0)
-
   terms-number : (number : ℕ) → (number ≡ 0) ⊎ (20 ≤ number) → (checkTerms lent hints edition way number ≡ 0) ⊎ (20 ≤ checkTerms lent hints edition way number)
   unfolding checkTerms
   terms-number zero h =
@@ -147,10 +143,10 @@ module _ (lent : Lent) (hints : List ℕ) (edition way : ℕ) where
 
 module _ (image : List ℕ) (lent : Lent) (terms : Terms) where
   pub checked : checkRun image lent terms ≡ 0 → Checked image lent
-  unfolding checkRun oddRooms oversize
+  unfolding checkRun checkTerms oddRooms oversize
   checked e =
       let v : checkImage image ≡ 0 = image-first lent (terms .hints) (terms .edition) (terms .way) (checkImage image) e in
-      let rooms = rooms-checked lent (terms .hints) (terms .edition) (terms .way) (ap (checkTerms lent (terms .hints) (terms .edition) (terms .way)) (sym v) ∙ e) in
+      let rooms = check-fails _ _ _ (ap (checkTerms lent (terms .hints) (terms .edition) (terms .way)) (sym v) ∙ e) in
       let odd = rooms .0 in
       record {
         valid = v;
@@ -161,7 +157,7 @@ module _ (image : List ℕ) (lent : Lent) (terms : Terms) where
           };
           symbols = eqb-true _ _ (is-true _ (neg-neg _ (λ t. odd (or-right _ _ (or-right _ _ t)))));
         };
-        few-places = ltb-false 65536 (length (lent .word .cases)) (is-false _ (λ t. rooms .1 (or-right _ _ (or-left _ _ t))));
+        few-places = ltb-false 65536 (length (lent .word .cases)) (is-false _ (λ t. check-fails _ _ _ (rooms .1) .0 (or-right _ _ (or-left _ _ t))));
       }
 
   -- a run's checks answer 0 or a number from 20 on
