@@ -1,14 +1,14 @@
 -- A close as a step of the run: it works on, or ends with the frame. Assumes nothing.
 use Prim.Native.Nat.{ℕ}
-use mathlib.Core.Path.{_≡_, refl, sym, ap, _∙_}
+use mathlib.Core.Path.{_≡_, refl, sym, _∙_}
 use mathlib.Core.Bool.{Bool, true, false}
-use mathlib.Core.List.{List, []}
+use mathlib.Core.List.{[]}
 use mathlib.Core.Option.{Option, none, some}
 use native.Mathlib.Numerals.{add-one}
 use Rattle.lists.specs.Tests.{choose}
 use Rattle.machine.specs.System.{System}
 use Rattle.machine.specs.Machine.{oneMore, frame, closeWith, closeStep, empty, Next, goesOn, ends, comesTo, judge}
-use Rattle.machine.specs.Lent.{BlockerRoom, WordRoom, withPending, withWord}
+use Rattle.machine.specs.Lent.{BlockerRoom, WordRoom}
 use Rattle.machine.specs.Runs.{endNumber, numberOf, recordOf, wordIn, wordLeft, tablesAfter}
 use Rattle.machine.specs.Records.{configurationOf, after}
 use Rattle.blockers.specs.Room.{tableOf}

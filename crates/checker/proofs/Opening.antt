@@ -10,7 +10,7 @@ use lib.Dec.{ltb}
 use lib.ListN.{length, take}
 use Rattle.lists.specs.Tests.{choose}
 use Rattle.machine.specs.Machine.{Pending, finalPending, openStep, oneMore, goesOn, wordLacks, judge}
-use Rattle.machine.specs.Lent.{BlockerRoom, WordRoom, wordRoomOf, unstampedRoom, blockersFrom, blockersIn, withPending, withWord}
+use Rattle.machine.specs.Lent.{BlockerRoom, WordRoom, wordRoomOf, unstampedRoom, blockersFrom, blockersIn, withWord}
 use Rattle.machine.specs.Runs.{endNumber, numberOf, recordOf, wordIn, wordLeft}
 use Rattle.machine.specs.Records.{configurationOf}
 use Rattle.machine.proofs.LentTables.{blockers-length}

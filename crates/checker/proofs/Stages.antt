@@ -5,7 +5,7 @@ use mathlib.Core.Bool.{Bool, true, false}
 use mathlib.Core.List.{List, [], _∷_}
 use native.Mathlib.Omega.{arith}
 use Rattle.lists.specs.Tests.{choose}
-use Rattle.machine.specs.Machine.{Blocker, Configuration, blocked, finalPending, Outcome, Next, ends, comesTo, halted}
+use Rattle.machine.specs.Machine.{Blocker, blocked, finalPending, Outcome, Next, ends, comesTo, halted}
 use Rattle.machine.specs.Why.{why, isReason}
 use Rattle.machine.specs.Lent.{BlockerRoom, roomOf, WordRoom, pendingFirst, columnBack, placed, withPending, withWord}
 use Rattle.machine.specs.Runs.{endNumber, numberOf, recordOf, wordIn, wordLeft, tablesAfter}

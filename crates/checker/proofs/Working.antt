@@ -19,7 +19,7 @@ use Rattle.automata.specs.Answers.{ReadAs}
 use Rattle.machine.specs.System.{System}
 use Rattle.machine.specs.Machine.{Blocker, Pending, Configuration, Given, oneMore, blocked, settled, qualifies, wordOf, extendStep, workOn, workStep, stepOn, step}
 use Rattle.machine.specs.Machine.{Step, nonempty, goesOn, ends, judge}
-use Rattle.machine.specs.Lent.{BlockerRoom, WordRoom, wordRoomOf, blockersIn, pendingFirst, withPending, withWord}
+use Rattle.machine.specs.Lent.{BlockerRoom, WordRoom, blockersIn, pendingFirst, withPending, withWord}
 use Rattle.machine.specs.Runs.{Stage, systemOf, roomsOf, endNumber, numberOf, recordOf, wordIn, wordLeft}
 use Rattle.machine.specs.Records.{configurationOf, after}
 use Rattle.machine.proofs.LentTables.{blockers-length, pending-length}

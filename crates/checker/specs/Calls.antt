@@ -1,6 +1,6 @@
 -- Begin and step: the record that a caller keeps, with the tables beside it, as the machine's stage; and the tables at a begin. Assumes nothing: these are
 -- definitions.
-use Prim.Native.Nat.{ℕ, _≤_}
+use Prim.Native.Nat.{_≤_}
 use mathlib.Core.Path.{_≡_}
 use lib.ListN.{length}
 use Rattle.machine.specs.Lent.{BlockerRoom, EvenRoom, WordRoom, lentOf}

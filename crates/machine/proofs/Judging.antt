@@ -20,7 +20,6 @@ use Rattle.machine.specs.Lent.{BlockerRoom, EvenRoom, Lent, zeroed, colu
 use Rattle.machine.specs.Runs.{Stage, systemOf, roomsOf, endNumber, numberOf, recordOf, wordIn, wordLeft, tablesAfter, shown, alone}
 use Rattle.machine.specs.Promises.{heldBy, WordFound, Rules, RunEnded, Verdict, Decides, Agreed}
 use Rattle.machine.proofs.Language.{IsVerdict, Word, accepts, Lawful, NoneShorter, Agree, both-nonempty, both-empty, both-at-start}
-use Rattle.machine.proofs.Language.{Decided}
 use Rattle.machine.proofs.Verdicts.{RightAnswer, closed-none}
 use Rattle.machine.proofs.Entering.{Stamped}
 use Rattle.machine.proofs.Chains.{Done, AllSound, chain-done, chain-ended, chain-decided, chain-verdict-stays}

@@ -92,7 +92,7 @@ byWay way terms = record { hints = terms .hints; allowance = terms .allowance; e
 abbrev pub Verdict : ℕ → ℕ → Type 0
 Verdict edition number = (number ≤ 1) ⊎ ((edition ≡ 2) × (number ≡ 5))
 
--- a run that was called so has a verdict, after at most `most` steps, and any larger rooms and allowances give the same result
+-- a run that was called so has a verdict, after at most `most` steps, and any larger rooms and allowances leave the same
 pub record Decides (image : List ℕ) (lent : Lent) (edition : ℕ) (calls : List Given) (most : ℕ) (r : Stage) : Type 0 where
   pub verdict : Verdict edition (r .run .answer)
   pub in-time : r .run .steps ≤ most
@@ -195,7 +195,7 @@ pub record StepsPromises (image : List ℕ) (lent : Lent) (begun : Terms) (steps
   -- (what a caller wants to know) while it works it has shown as much as if it were stopped there
   pub working-shows : at .run .answer ≡ 6 → (word : List ℕ) → Accepted (automatonOf image) word → at .run .level ≤ length word
 
--- a run that was begun in this edition, at once or step by step, and its result
+-- a run that was begun in this edition, at once or step by step, and what it leaves
 pub data RunBy (image : List ℕ) (lent : Lent) : ℕ → Stage → Type 0 where
   atOnce : (terms : Terms) → RunBy image lent (terms .edition) (runOf image lent terms)
   bySteps : (begun : Terms) (steps : List Terms) → RunBy image lent (begun .edition) (reachedBy image lent begun steps)

@@ -1,7 +1,7 @@
 -- What the word room holds after each change: one place written, the places cleared, the word turned round. Assumes nothing.
 use Prim.Native.Nat.{ℕ, zero, suc, _+_, _-_, _≤_, _<_, max}
 use mathlib.Core.Path.{_≡_, refl, sym, ap, _∙_}
-use mathlib.Core.List.{List, [], _∷_, _++_, append-nil, append-assoc, reverse, reverse-append, reverse-cons}
+use mathlib.Core.List.{List, [], _∷_, _++_, append-nil, reverse, reverse-append}
 use native.Mathlib.Numerals.{add-one}
 use native.Mathlib.Omega.{arith}
 use lib.ListN.{
