@@ -5,34 +5,32 @@ use borrow.Author.Needs.{needs}
 use Rattle.checker.proofs.begin.begin_read.Statement.{statement}
 use Rattle.checker.proofs.begin.begin_read.Tie as tie
 
--- places of the code, by their types
-cleared-of : tie.After-start → tie.After-clear-rooms
-cleared-of c = search
-
-checked-of : tie.After-clear-rooms → tie.After-check-terms
-checked-of c = search
-
-start-of : tie.After-check-terms → tie.Start
-start-of c = search
-
 returns : tie.Need-returns
 returns c =
     let checked : tie.After-check-terms = search in
     let start : tie.Start = search in
-    begin-refuses-terms _ _ _ _ (start .pre) _ (checked .check-terms .ensures) _ (search needs) (c .alone .ensures)
+    search (begin-refuses-terms, start .pre, checked .check-terms .ensures, c .before .if1 .taken, c .alone .ensures)
+
+-- places of the code: where no check applied, the start, and the cleared tables
+passed-of : tie.After-clear-rooms-arg5 → tie.Else1
+passed-of c = search
+
+start-of : tie.Else1 → tie.Start
+start-of c = search
+
+cleared-of : tie.After-start → tie.After-clear-rooms
+cleared-of c = search
 
 clear-rooms-requires : tie.Need-clear-rooms-requires
+unfolding passed-of start-of
 clear-rooms-requires c κs =
-    let checked : tie.After-check-terms = search in
-    let start : tie.Start = search in
-    rooms-checked _ _ _ (termsOf _ 0 _ _) (start .pre) _ (checked .check-terms .ensures) (search needs)
+    rooms-checked _ _ _ (termsOf _ 0 _ _) (start-of (passed-of c) .pre) _ (passed-of c .before .check-terms .ensures) (passed-of c .if1 .left)
 
 returns-2 : tie.Need-returns-2
-unfolding cleared-of checked-of start-of
+unfolding passed-of start-of cleared-of
 returns-2 c =
-    let cleared = cleared-of c in
-    let checked = checked-of cleared in
-    begin-goes _ _ _ _ (start-of checked .pre) _ (checked .check-terms .ensures) (search needs) (cleared .clear-rooms .ensures) _ (c .start .ensures)
+    begin-goes _ _ _ _ (start-of (passed-of (cleared-of c .before)) .pre) _ (passed-of (cleared-of c .before) .before .check-terms .ensures)
+    (passed-of (cleared-of c .before) .if1 .left) (cleared-of c .clear-rooms .ensures) _ (c .start .ensures)
 
 pub begin-read-spec : {M : Type 1} → statement M
 begin-read-spec =

@@ -3,10 +3,13 @@ use borrow.Author.Needs.{needs}
 use Rattle.checker.proofs.run.run_read.Statement.{statement}
 use Rattle.checker.proofs.run.run_read.Tie as tie
 
+-- a place of the code: the masks as the begin left them
+begun-of : tie.After-go-on-arg5 → tie.After-masks
+begun-of c = search
+
 go-on-requires : tie.Need-go-on-requires
-go-on-requires c κs =
-    let start : tie.Start = search in
-    let begun : tie.After-begin-read = search in (start .pre, run-ready _ _ _ _ 0 _ _ (begun .begin-read .ensures))
+unfolding begun-of
+go-on-requires c κs = (search needs, run-ready _ _ _ _ 0 _ _ (begun-of c .before .begin-read .ensures))
 
 returns : tie.Need-returns
 returns c = search (run-ends, needs)

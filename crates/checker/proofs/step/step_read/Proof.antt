@@ -4,57 +4,54 @@ use borrow.Author.Needs.{needs}
 use Rattle.checker.proofs.step.step_read.Statement.{statement}
 use Rattle.checker.proofs.step.step_read.Tie as tie
 
--- places of the code, by their types
-start-of : tie.After-check-terms → tie.Start
+-- places of the code: the check of the record, and the start
+asked-of : tie.After-go-on-arg5 → tie.After-broken
+asked-of c = search
+
+start-of : tie.After-broken → tie.Start
 start-of c = search
-
-run-of : tie.After-go-on-arg5 → tie.After-to-run
-run-of c = search
-
-gone-of : tie.After-to-record → tie.After-go-on
-gone-of c = search
-
-made-of : tie.After-go-on → tie.After-to-run
-made-of c = search
 
 returns : tie.Need-returns
 returns c = search (step-refuses-terms, needs)
 
 returns-2 : tie.Need-returns-2
-unfolding start-of
 returns-2 c =
-    let broken = c .before in
-    let checked = broken .before .before in
-    step-breaks _ _ _ _ _ (start-of checked .pre) _ (checked .check-terms .ensures) (broken .before .if1 .left) (broken .broken .ensures) (search needs)
+    let asked : tie.After-broken = search in
+    let start : tie.Start = search in
+    search (step-breaks, start .pre, asked .before .before .check-terms .ensures, asked .before .if1 .left, asked .broken .ensures, c .if2 .taken)
 
 to-run-requires : tie.Need-to-run-requires
 unfolding start-of
 to-run-requires c κs =
-    let broken = c .before in
-    let checked = broken .before .before in
-    fits-run _ _ _ (termsOf _ 0 _ _) _ (start-of checked .pre) _ (checked .check-terms .ensures) (broken .before .if1 .left) (broken .broken .ensures)
-    (c .if2 .left)
+    fits-run _ _ _ (termsOf _ 0 _ _) _ (start-of (c .before) .pre) _ (c .before .before .before .check-terms .ensures) (c .before .before .if1 .left)
+    (c .before .broken .ensures) (c .if2 .left)
 
 go-on-requires : tie.Need-go-on-requires
-unfolding start-of run-of
-go-on-requires c κs =
-    let made = run-of c in
-    let broken = made .before .before in
-    let checked = broken .before .before in (
-      start-of checked .pre,
-      step-ready _ _ _ (termsOf _ 0 _ _) _ (start-of checked .pre) _ (checked .check-terms .ensures) (broken .before .if1 .left) (broken .broken .ensures)
-          (made .before .if2 .left) _ (made .to-run .ensures),
-    )
+unfolding asked-of start-of
+go-on-requires c κs = (
+  search needs,
+  step-ready _ _ _ (termsOf _ 0 _ _) _ (start-of (asked-of c) .pre) _ (asked-of c .before .before .check-terms .ensures)
+      (asked-of c .before .if1 .left) (asked-of c .broken .ensures) (search needs) _ (search needs),
+)
 
 returns-3 : tie.Need-returns-3
-unfolding start-of gone-of made-of
+unfolding start-of
 returns-3 c =
-    let gone = gone-of c in
-    let made = made-of gone in
-    let broken = made .before .before in
-    let checked = broken .before .before in
-    step-goes _ _ _ _ _ (start-of checked .pre) _ (checked .check-terms .ensures) (broken .before .if1 .left) (broken .broken .ensures)
-    (made .before .if2 .left) _ (made .to-run .ensures) _ _ (gone .go-on .ensures) (c .to-record .ensures)
+    let gone : tie.After-go-on = search in
+    let made : tie.After-to-run = search in
+    let asked : tie.After-broken = search in
+    let start = start-of asked in
+    search (
+      step-goes,
+      start .pre,
+      asked .before .before .check-terms .ensures,
+      asked .before .if1 .left,
+      asked .broken .ensures,
+      made .before .if2 .left,
+      made .to-run .ensures,
+      gone .go-on .ensures,
+      c .to-record .ensures,
+    )
 
 pub step-read-spec : {M : Type 1} → statement M
 step-read-spec =

@@ -4,25 +4,21 @@ use borrow.Author.Needs.{needs}
 use Rattle.checker.proofs.steps.working_step.Statement.{statement}
 use Rattle.checker.proofs.steps.working_step.Tie as tie
 
--- places of the code, by their types
-worked-of : tie.After-slice-known12 → tie.After-work
-worked-of c = search
-
-start-of : tie.After-work → tie.Start
-start-of c = search
-
 returns : tie.Need-returns
 returns c = search (step-stops, needs)
 
 work-requires : tie.Need-work-requires
-work-requires c κs = let start : tie.Start = search in (start .pre .0, start .pre .1, search needs, search needs)
+work-requires c κs = (search needs, search needs, search needs, search needs)
 
 returns-2 : tie.Need-returns-2
-unfolding worked-of start-of
-returns-2 c = let given = start-of (worked-of c) .pre in step-works (given .0) (given .1) _ _ _ (search needs) (search needs)
+returns-2 c =
+    let worked : tie.After-work = search in
+    let passed : tie.Else1 = search in
+    let start : tie.Start = search in
+    search (step-works, start .pre .0, start .pre .1, passed .if1 .left, worked .work .ensures)
 
 close-level-requires : tie.Need-close-level-requires
-close-level-requires c κs = let start : tie.Start = search in (start .pre .0, ready-holds (start .pre .1), search needs, search needs)
+close-level-requires c κs = (search needs, search (ready-holds, needs), search needs, search needs)
 
 returns-3 : tie.Need-returns-3
 returns-3 c = search (step-closes, needs)
