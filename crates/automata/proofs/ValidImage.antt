@@ -1,7 +1,7 @@
 -- What an image that no check refuses keeps: its sizes, its spans, its rows, and the automaton that it holds. Assumes nothing.
 use Prim.Native.Nat.{ℕ, zero, suc, _+_, _-_, _*_, _/_, _%_, _^_, _≤_, _<_}
 use mathlib.Core.Path.{_≡_, refl, subst}
-use mathlib.Core.Bool.{Bool, false}
+use mathlib.Core.Bool.{false}
 use mathlib.Core.List.{List, []}
 use native.Mathlib.Nat.{le-of-eq, lt-of-lt-of-le}
 use native.Mathlib.Omega.{arith}
@@ -10,14 +10,14 @@ use borrow.Author.Tests.{eqb-false, lt-ltb, le-ltb}
 use lib.ListN.{length}
 use lib.Pow.{pow-mono}
 use Rattle.lists.specs.Lists.{_∈_, Each}
-use Rattle.lists.proofs.Tests.{fails, and-left, and-right, choose-true, choose-false}
+use Rattle.lists.proofs.Tests.{and-left, and-right, choose-true, choose-false}
 use Rattle.lists.proofs.Lists.{in-none, each-more, each-from-at}
 use Rattle.masks.specs.Sets.{within}
 use Rattle.masks.proofs.Laws.{within-below}
 use Rattle.automata.specs.Image.{Row, Valid, statesOf, symbolsOf, rowCountOf, initialOf, finalOf, offsetOf, sizeOf}
-use Rattle.automata.specs.Image.{rowsStart, spanStart, pairHolds, pairsHold, rowAt, rowsFrom, rowsOf, rowHolds, rowsHold, outside, check, checkImage}
+use Rattle.automata.specs.Image.{rowsStart, spanStart, pairHolds, pairsHold, rowAt, rowsFrom, rowsOf, rowHolds, rowsHold, outside, checkImage}
 use Rattle.automata.specs.Automaton.{Automaton, automatonOf}
-use Rattle.automata.proofs.Chained.{test-failed, later-none, passed}
+use Rattle.automata.proofs.Chained.{passed}
 
 -- what the checks leave of an image that they do not refuse
 pub record Kept (image : List ℕ) : Type 0 where
@@ -37,10 +37,6 @@ pub record Kept (image : List ℕ) : Type 0 where
 pub record RowKept (states : ℕ) (row : Row) : Type 0 where
   pub state-below : row .state < states
   pub case-within : T (within states (row .case))
-
--- a check that did not apply
-pub check-fails : (b : Bool) (number later : ℕ) → check b (suc number) later ≡ 0 → (T b → ⊥) × (later ≡ 0)
-check-fails b number later e = (fails (test-failed b (suc number) later e), later-none b (suc number) later e)
 
 not-zero : (number : ℕ) → eqb number 0 ≡ false → 1 ≤ number
 not-zero number e = let n : number ≡ 0 → ⊥ = eqb-false number 0 e in omega arith

@@ -12,14 +12,14 @@ use Rattle.automata.specs.declared.image.Image.{Image}
 use Rattle.automata.specs.declared.image.Image.the-variants as Answer
 use Rattle.machine.specs.Machine.{start}
 use Rattle.machine.specs.Lent.{BlockerRoom, WordRoom, lentOf, zeroed}
-use Rattle.machine.specs.Runs.{Terms, RunRecord, Stage, givenOf, recordOf, aloneRecord, checkTerms, checkRun, runWith, runOf}
+use Rattle.machine.specs.Runs.{Terms, RunRecord, givenOf, recordOf, aloneRecord, checkTerms, checkRun, runWith, runOf}
 use Rattle.machine.specs.Records.{answering, broken, beginWith, beginOf, checkRecord, checkStep, stepWith, stepOf}
 use Rattle.machine.specs.Promises.{Unbroken}
 use Rattle.machine.proofs.AnyRecord.{unbroken-means}
 use Rattle.checker.specs.declared.record.Run.{Run}
 use Rattle.checker.specs.declared.record.Record.{Record}
 use Rattle.checker.specs.Stage.{recordIn, stage, wentOn, Ready}
-use Rattle.checker.specs.Calls.{recordAs, stageAs, calledAs}
+use Rattle.checker.specs.Calls.{recordAs, stageAs, calledAs, Checked}
 use Rattle.checker.proofs.Checking.{RefusedUnder, image-refuses, terms-refuse, checked-is, rooms-checked}
 
 -- begin and run, by their checks
@@ -108,29 +108,31 @@ module _ (image : List ℕ) (room : BlockerRoom) (word : WordRoom) (terms : Term
       unfolding stepOf stepWith check
       step-breaks t = sym (rw (checks ∙ ap (λ (x : Bool). check x 33 0) t))
 
-      module _ (whole : b ≡ false) where
-        bounds : Unbroken (record { blockers = length (room .masks); word = length (word .cases) }) (recordAs before)
-        bounds = unbroken-means _ (recordAs before) (sym is ∙ whole)
+      pub step-goes : b ≡ false → (run : Run) → recordIn run ≡ recordAs before → {room′ : BlockerRoom} {word′ : WordRoom} (later : Run) (left : Record)
+          → stage room′ word′ later ≡ wentOn image (givenOf image terms) 1 (stage room word run) → recordAs left ≡ recordIn later
+          → calledAs room′ word′ (record { number = left .answer; left = left }) ≡ stepOf image terms (stageAs room word before)
+      unfolding stepOf stepWith check wentOn
+      step-goes whole run same {room′} {word′} later left went kept =
+          ap (λ (x : RunRecord). answering (record { tables = lentOf room′ word′; run = x })) kept
+          ∙ ap answering (went ∙ ap (λ (x : RunRecord). wentOn image (givenOf image terms) 1 (record { tables = lentOf room word; run = x })) same)
+          ∙ sym (rw (checks ∙ ap (λ (x : Bool). check x 33 0) whole))
 
-        -- so the record can be read as a run
-        pub fits-run : (before .answer ≤ 6) × (before .level ≤ 65536)
-        fits-run = (bounds .answer, omega (arith, bounds .level, rooms-checked image room word terms read number passed none .few-places))
+-- where neither these checks nor 33 apply
+module _ (room : BlockerRoom) (word : WordRoom) (hints : List ℕ) (edition way number : ℕ) (before : Record)
+    (passed : number ≡ checkTerms (lentOf room word) hints edition way 0) (none : number ≡ 0) (b : Bool)
+    (is : b ≡ broken (record { blockers = length (room .masks); word = length (word .cases) }) (recordAs before)) (whole : b ≡ false) where
+  bounds : Unbroken (record { blockers = length (room .masks); word = length (word .cases) }) (recordAs before)
+  bounds = unbroken-means _ (recordAs before) (sym is ∙ whole)
 
-        module _ (run : Run) (same : recordIn run ≡ recordAs before) where
-          same-stage : stage room word run ≡ stageAs room word before
-          same-stage = ap (λ (x : RunRecord). record { tables = lentOf room word; run = x }) same
+  rooms : Checked room word
+  rooms = rooms-checked room word hints edition way number passed none
 
-          pub step-ready : run .answer ≡ 6 → Ready (stage room word run)
-          step-ready six =
-              let rooms = rooms-checked image room word terms read number passed none in
-              subst Ready (sym same-stage)
-              (record { blocker-room = rooms .blocker-room; word-room = rooms .word-room; room-fits = rooms .few-places; bounds = bounds })
+  -- the record can be read as a run
+  pub fits-run : (before .answer ≤ 6) × (before .level ≤ 65536)
+  fits-run = (bounds .answer, omega (arith, bounds .level, rooms .few-places))
 
-          pub step-goes : {room′ : BlockerRoom} {word′ : WordRoom} (later : Run) (left : Record)
-              → stage room′ word′ later ≡ wentOn image (givenOf image terms) 1 (stage room word run) → recordAs left ≡ recordIn later
-              → calledAs room′ word′ (record { number = left .answer; left = left }) ≡ stepOf image terms (stageAs room word before)
-          unfolding stepOf stepWith check wentOn
-          step-goes {room′} {word′} later left went kept =
-              ap (λ (x : RunRecord). answering (record { tables = lentOf room′ word′; run = x })) kept
-              ∙ ap answering (went ∙ ap (λ (x : Stage). wentOn image (givenOf image terms) 1 x) same-stage)
-              ∙ sym (rw (checks ∙ ap (λ (x : Bool). check x 33 0) whole))
+  -- which a step can be made of
+  pub step-ready : (run : Run) → recordIn run ≡ recordAs before → run .answer ≡ 6 → Ready (stage room word run)
+  step-ready run same six =
+      subst Ready (sym (ap (λ (x : RunRecord). record { tables = lentOf room word; run = x }) same))
+      (record { blocker-room = rooms .blocker-room; word-room = rooms .word-room; room-fits = rooms .few-places; bounds = bounds })

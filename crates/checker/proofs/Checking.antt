@@ -11,7 +11,7 @@ use Rattle.automata.specs.declared.image.Image.the-variants as Answer
 use Rattle.automata.proofs.WordTests.{answer-valid, answer-head}
 use Rattle.machine.specs.Lent.{BlockerRoom, WordRoom, lentOf}
 use Rattle.machine.specs.Runs.{Terms, checkTerms, checkRun}
-use Rattle.machine.proofs.RunsKept.{checked}
+use Rattle.machine.proofs.RunsKept.{rooms-passed}
 use Rattle.checker.specs.Calls.{Checked}
 
 -- the checks of a run refuse it under this number
@@ -45,8 +45,9 @@ module _ (image : List ℕ) (room : BlockerRoom) (word : WordRoom) (terms : Term
     pub terms-refuse : (number ≡ 0 → ⊥) → RefusedUnder image room word terms number
     terms-refuse n = record { some-number = n; checks = checked-is }
 
-    -- none applies
-    pub rooms-checked : number ≡ 0 → Checked room word
-    rooms-checked none =
-        let c = checked image (lentOf room word) terms (checked-is ∙ none) in
-        record { blocker-room = c .even .blockers; word-room = c .even .symbols; few-places = c .few-places }
+-- none of those of the rooms applies
+pub rooms-checked : (room : BlockerRoom) (word : WordRoom) (hints : List ℕ) (edition way number : ℕ)
+    → number ≡ checkTerms (lentOf room word) hints edition way 0 → number ≡ 0 → Checked room word
+rooms-checked room word hints edition way number passed none =
+    let c = rooms-passed (lentOf room word) hints edition way (sym passed ∙ none) in
+    record { blocker-room = c .even .blockers; word-room = c .even .symbols; few-places = c .few-places }

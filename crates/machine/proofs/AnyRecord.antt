@@ -5,13 +5,13 @@ use mathlib.Core.Path.{_≡_, refl, sym, ap, subst, _∙_}
 use mathlib.Core.Bool.{Bool, true, false}
 use mathlib.Core.List.{List, [], _∷_}
 use native.Mathlib.Omega.{arith}
-use borrow.Author.Tests.{ltb-false, le-ltb, eqb-true, eqb-false}
+use borrow.Author.Tests.{eqb-true, eqb-false}
 use lib.Dec.{eqb}
 use lib.ListN.{length}
-use Rattle.lists.specs.Tests.{_or_, choose}
-use Rattle.lists.proofs.Tests.{is-false, or-neither}
+use Rattle.lists.specs.Tests.{choose}
+use Rattle.lists.proofs.Tests.{tests, facts}
 use Rattle.automata.specs.Image.{check, checkImage}
-use Rattle.automata.proofs.ValidImage.{check-fails}
+use Rattle.automata.proofs.Chained.{test-failed}
 use Rattle.machine.specs.System.{System}
 use Rattle.machine.specs.Machine.{Blocker, Pending, Configuration, Given, Rooms, Step, Next, goesOn, ends, comesTo, advance}
 use Rattle.machine.specs.Machine.{openStep, extendStep, blockStep, closeWith}
@@ -72,32 +72,11 @@ advanced-few (spent k) l = record { few = omega arith; halts = refl; word = λ e
 -- 33's test as the proposition, and the proposition as the test
 pub unbroken-means : (rooms : Rooms) (run : RunRecord) → broken rooms run ≡ false → Unbroken rooms run
 unfolding broken
-unbroken-means rooms run e =
-    let answer = or-neither _ _ e in
-    let held = or-neither _ _ (answer .1) in
-    let level = or-neither _ _ (held .1) in
-    let pending = or-neither _ _ (level .1) in
-    let counts = or-neither _ _ (pending .1) in
-    record {
-      answer = ltb-false _ _ (answer .0);
-      held = ltb-false _ _ (held .0);
-      level = ltb-false _ _ (level .0);
-      pending = ltb-false _ _ (pending .0);
-      blocks = ltb-false _ _ (counts .0);
-      accepted = ltb-false _ _ (counts .1);
-    }
+unbroken-means rooms run e = search facts depth 9
 
 means-unbroken : (rooms : Rooms) (run : RunRecord) → Unbroken rooms run → broken rooms run ≡ false
-unfolding broken _or_
-means-unbroken rooms run u =
-    rw (
-      le-ltb 6 (run .answer) (u .answer),
-      le-ltb (rooms .blockers) (run .held) (u .held),
-      le-ltb (rooms .word) (run .level) (u .level),
-      le-ltb (run .level) (run .pending) (u .pending),
-      le-ltb (run .steps) (run .blocks) (u .blocks),
-      le-ltb (run .steps) (run .accepted) (u .accepted),
-    )
+unfolding broken
+means-unbroken rooms run u = search tests depth 9
 
 -- tables as long as those that were lent
 pub record SameLengths (lent tables : Lent) : Type 0 where
@@ -158,7 +137,7 @@ checked-passed image terms at = from (checkRun image (at .tables) terms) refl
       none = none;
       takes = record {
         same = lengths-same (at .tables);
-        unbroken = unbroken-means _ _ (is-false _ (check-fails _ _ _ e .0));
+        unbroken = unbroken-means _ _ (test-failed _ 33 _ e);
       };
     }
     from (suc number) none e = absurd (omega arith)

@@ -5,18 +5,16 @@ use mathlib.Core.Bool.{Bool, true, false}
 use mathlib.Core.List.{List, [], _∷_, map}
 use mathlib.Core.Logic.{_⊎_, inl, inr}
 use native.Mathlib.Omega.{arith}
-use borrow.Author.Tests.{eqb-true, ltb-false, ne-eqb}
-use lib.Dec.{T, eqb}
+use lib.Dec.{T}
 use lib.ListN.{length}
 use Rattle.lists.specs.Tests.{_or_, neg}
-use Rattle.lists.proofs.Tests.{is-true, is-false, or-left, or-right, neg-neg}
 use Rattle.lists.specs.Lists.{here, there, Each}
 use Rattle.lists.proofs.Lists.{in-none, each-more}
 use Rattle.automata.specs.Image.{Valid, check, checkImage, statesOf}
 use Rattle.automata.specs.Automaton.{automatonOf}
 use Rattle.automata.specs.Acceptance.{Accepted}
 use Rattle.automata.proofs.Checks.{check-number}
-use Rattle.automata.proofs.ValidImage.{check-fails}
+use Rattle.automata.proofs.Chained.{checks, passed, test-failed, later-none}
 use Rattle.machine.specs.Machine.{Pending, Configuration, Given, Rooms, blocks, step, passes, Next, ends, chain, begin, callsOf, machine}
 use Rattle.machine.specs.Lent.{Lent}
 use Rattle.machine.specs.Runs.{Terms, Stage, systemOf, roomsOf, recordOf, shown, alone, oddRooms, oversize, unknownEdition, unknownWay}
@@ -39,38 +37,30 @@ given-each image P (terms ∷ steps) all = each-more (all terms (here refl)) (gi
 pub given-sound : (image : List ℕ) → Valid image → (steps : List Terms) → AllSound (systemOf image) (map (givenOf image) steps)
 given-sound image valid steps = given-each image (λ g. Sound (systemOf image) (g .grow)) steps (λ terms m. growth-sound image valid (terms .way))
 
--- what a run's checks leave where none applies
+-- what the checks of the rooms leave where none applies, and those of a run
+pub record RoomsChecked (lent : Lent) : Type 0 where
+  pub even : Even lent
+  pub few-places : length (lent .word .cases) ≤ 65536
+
 pub record Checked (image : List ℕ) (lent : Lent) : Type 0 where
   pub valid : Valid image
   pub even : Even lent
   pub few-places : length (lent .word .cases) ≤ 65536
+
+pub rooms-passed : (lent : Lent) (hints : List ℕ) (edition way : ℕ) → checkTerms lent hints edition way 0 ≡ 0 → RoomsChecked lent
+unfolding checkTerms oddRooms oversize
+rooms-passed lent hints edition way e = search passed depth 10
 
 check-high : (b : Bool) (number later : ℕ) → 20 ≤ number → (later ≡ 0) ⊎ (20 ≤ later) → (check b number later ≡ 0) ⊎ (20 ≤ check b number later)
 unfolding check
 check-high true number later l h = inr l
 check-high false number later l h = h
 
--- a check that does not apply leaves the answer to those behind it; one that does gives its number
-check-passed : (b : Bool) (number x y answer : ℕ) → (x ≡ 0 → y ≡ answer) → check b (suc number) x ≡ 0 → check b (suc number) y ≡ answer
-unfolding check
-check-passed true number x y answer h e = absurd (omega arith)
-check-passed false number x y answer h e = h e
-
-check-applies : (b : Bool) (number later : ℕ) → T b → check b number later ≡ number
-unfolding check
-check-applies true number later t = refl
-check-applies false number later t = absurd t
-
 -- editions 1 and 2 are refused alike
 editions-checked : (lent : Lent) (hints : List ℕ) (way number : ℕ) → checkTerms lent hints 1 way number ≡ checkTerms lent hints 2 way number
 unfolding checkTerms unknownEdition neg _or_
 editions-checked lent hints way zero = refl
 editions-checked lent hints way (suc number) = refl
-
--- neither of two numbers
-neither : (number a b : ℕ) → (number ≡ a → ⊥) → (number ≡ b → ⊥) → T (neg (eqb number a or eqb number b))
-unfolding neg _or_
-neither number a b f g = rw (ne-eqb _ _ f, ne-eqb _ _ g) tt
 
 -- the checks that follow the image's
 module _ (lent : Lent) (hints : List ℕ) (edition way : ℕ) where
@@ -79,13 +69,6 @@ module _ (lent : Lent) (hints : List ℕ) (edition way : ℕ) where
   unfolding checkTerms
   image-kept zero n = absurd (n refl)
   image-kept (suc number) n = refl
-
-  -- the checks of the rooms, and then what later ones answer
-  abbrev roomsThen : ℕ → ℕ
-  roomsThen later = check (oddRooms lent) 30 (check (oversize lent hints) 31 later)
-
-  rooms-passed : (x y answer : ℕ) → (x ≡ 0 → y ≡ answer) → roomsThen x ≡ 0 → roomsThen y ≡ answer
-  rooms-passed x y answer h = check-passed (oddRooms lent) 29 _ _ answer (check-passed (oversize lent hints) 30 x y answer h)
 
   -- whatever refuses a run in edition 1 and by way 0 comes before 36
   edition-waits : (number : ℕ) → (checkTerms lent hints 1 0 number ≡ 0 → ⊥)
@@ -115,18 +98,14 @@ module _ (lent : Lent) (hints : List ℕ) (edition way : ℕ) where
   -- where nothing refuses it in edition 1 and by way 0, an edition other than 1 or 2 does
   edition-refused : (edition ≡ 1 → ⊥) → (edition ≡ 2 → ⊥) → (number : ℕ) → checkTerms lent hints 1 0 number ≡ 0
       → checkTerms lent hints edition way number ≡ 36
-  unfolding checkTerms unknownEdition unknownWay check neg _or_
-  edition-refused first second zero e =
-      rooms-passed 0 (check (unknownEdition edition) 36 (check (unknownWay way) 37 0)) 36
-      (λ z. check-applies (unknownEdition edition) 36 _ (neither edition 1 2 first second)) e
+  unfolding checkTerms unknownEdition
+  edition-refused first second zero e = sym (search (checks, test-failed, later-none) depth 10)
   edition-refused first second (suc number) e = absurd (omega arith)
 
   -- where nothing refuses it by way 0, a way other than 0 or 1 does
   way-refused : (way ≡ 0 → ⊥) → (way ≡ 1 → ⊥) → (number : ℕ) → checkTerms lent hints edition 0 number ≡ 0 → checkTerms lent hints edition way number ≡ 37
-  unfolding checkTerms unknownWay check neg _or_
-  way-refused first second zero e =
-      rooms-passed (check (unknownEdition edition) 36 0) (check (unknownEdition edition) 36 (check (unknownWay way) 37 0)) 37
-      (check-passed (unknownEdition edition) 35 0 (check (unknownWay way) 37 0) 37 (λ z. check-applies (unknownWay way) 37 0 (neither way 0 1 first second))) e
+  unfolding checkTerms unknownWay
+  way-refused first second zero e = sym (search (checks, test-failed, later-none) depth 10)
   way-refused first second (suc number) e = absurd (omega arith)
 
   image-first : (number : ℕ) → checkTerms lent hints edition way number ≡ 0 → number ≡ 0
@@ -143,22 +122,11 @@ module _ (lent : Lent) (hints : List ℕ) (edition way : ℕ) where
 
 module _ (image : List ℕ) (lent : Lent) (terms : Terms) where
   pub checked : checkRun image lent terms ≡ 0 → Checked image lent
-  unfolding checkRun checkTerms oddRooms oversize
+  unfolding checkRun
   checked e =
       let v : checkImage image ≡ 0 = image-first lent (terms .hints) (terms .edition) (terms .way) (checkImage image) e in
-      let rooms = check-fails _ _ _ (ap (checkTerms lent (terms .hints) (terms .edition) (terms .way)) (sym v) ∙ e) in
-      let odd = rooms .0 in
-      record {
-        valid = v;
-        even = record {
-          blockers = record {
-            levels = eqb-true _ _ (is-true _ (neg-neg _ (λ t. odd (or-left _ _ t))));
-            entered = eqb-true _ _ (is-true _ (neg-neg _ (λ t. odd (or-right _ _ (or-left _ _ t)))));
-          };
-          symbols = eqb-true _ _ (is-true _ (neg-neg _ (λ t. odd (or-right _ _ (or-right _ _ t)))));
-        };
-        few-places = ltb-false 65536 (length (lent .word .cases)) (is-false _ (λ t. check-fails _ _ _ (rooms .1) .0 (or-right _ _ (or-left _ _ t))));
-      }
+      let rooms = rooms-passed lent (terms .hints) (terms .edition) (terms .way) (ap (checkTerms lent (terms .hints) (terms .edition) (terms .way)) (sym v) ∙ e) in
+      record { valid = v; even = rooms .even; few-places = rooms .few-places }
 
   -- a run's checks answer 0 or a number from 20 on
   pub run-number : (checkRun image lent terms ≡ 0) ⊎ (20 ≤ checkRun image lent terms)

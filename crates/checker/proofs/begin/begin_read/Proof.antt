@@ -1,6 +1,5 @@
 use Rattle.checker.proofs.Calling.{begin-refuses-terms, begin-goes}
 use Rattle.checker.proofs.Checking.{rooms-checked}
-use Rattle.checker.specs.Stage.{termsOf}
 use borrow.Author.Needs.{needs}
 use Rattle.checker.proofs.begin.begin_read.Statement.{statement}
 use Rattle.checker.proofs.begin.begin_read.Tie as tie
@@ -22,9 +21,8 @@ cleared-of : tie.After-start → tie.After-clear-rooms
 cleared-of c = search
 
 clear-rooms-requires : tie.Need-clear-rooms-requires
-unfolding passed-of start-of
-clear-rooms-requires c κs =
-    rooms-checked _ _ _ (termsOf _ 0 _ _) (start-of (passed-of c) .pre) _ (passed-of c .before .check-terms .ensures) (passed-of c .if1 .left)
+unfolding passed-of
+clear-rooms-requires c κs = rooms-checked _ _ _ _ _ _ (passed-of c .before .check-terms .ensures) (passed-of c .if1 .left)
 
 returns-2 : tie.Need-returns-2
 unfolding passed-of start-of cleared-of

@@ -1,5 +1,4 @@
 use Rattle.checker.proofs.Calling.{step-refuses-terms, step-breaks, fits-run, step-ready, step-goes}
-use Rattle.checker.specs.Stage.{termsOf}
 use borrow.Author.Needs.{needs}
 use Rattle.checker.proofs.step.step_read.Statement.{statement}
 use Rattle.checker.proofs.step.step_read.Tie as tie
@@ -21,17 +20,15 @@ returns-2 c =
     search (step-breaks, start .pre, asked .before .before .check-terms .ensures, asked .before .if1 .left, asked .broken .ensures, c .if2 .taken)
 
 to-run-requires : tie.Need-to-run-requires
-unfolding start-of
 to-run-requires c κs =
-    fits-run _ _ _ (termsOf _ 0 _ _) _ (start-of (c .before) .pre) _ (c .before .before .before .check-terms .ensures) (c .before .before .if1 .left)
-    (c .before .broken .ensures) (c .if2 .left)
+    fits-run _ _ _ _ _ _ _ (c .before .before .before .check-terms .ensures) (c .before .before .if1 .left) _ (c .before .broken .ensures) (c .if2 .left)
 
 go-on-requires : tie.Need-go-on-requires
-unfolding asked-of start-of
+unfolding asked-of
 go-on-requires c κs = (
   search needs,
-  step-ready _ _ _ (termsOf _ 0 _ _) _ (start-of (asked-of c) .pre) _ (asked-of c .before .before .check-terms .ensures)
-      (asked-of c .before .if1 .left) (asked-of c .broken .ensures) (search needs) _ (search needs),
+  step-ready _ _ _ _ _ _ _ (asked-of c .before .before .check-terms .ensures) (asked-of c .before .if1 .left) _ (asked-of c .broken .ensures)
+      (search needs) _ (search needs),
 )
 
 returns-3 : tie.Need-returns-3
