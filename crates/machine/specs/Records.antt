@@ -11,7 +11,7 @@ use Rattle.machine.specs.Machine.{Configuration, Given, Rooms, Next, goe
 use Rattle.machine.specs.Lent.{Lent, zeroed, blockersFrom, pendingFirst}
 use Rattle.machine.specs.Runs.{Terms, RunRecord, Stage, systemOf, givenOf, roomsOf, recordOf, tablesAfter, alone, checkRun}
 
--- the configuration that they stand for: "the places in use as they stand"
+-- the configuration that record and tables stand for: "the places in use as they stand"
 abbrev pub configurationOf : Stage → Configuration
 configurationOf at = record {
   table = blockersFrom (at .tables .room) (at .run .held) 0;
