@@ -53,14 +53,6 @@ after-some initial finals word table level (suc rest) n holds =
     stays : pendingAfter initial (finals ∷ []) table level (pendingFirst word (suc rest)) ≡ pendingFirst word (suc rest)
     stays = unfold pendingAfter pendingFirst in refl
 
--- the counts that grow by one still fit
-module _ {run : Run} {hinted : ℕ} (count : Countable run hinted) where
-  pub blocks-fit : run .blocks + 1 < 18446744073709551616
-  blocks-fit = omega (arith, count .few-blocks, count .few-steps)
-
-  pub accepted-fit : run .accepted + hinted < 18446744073709551616
-  accepted-fit = omega (arith, count .few-accepted, count .few-steps, count .one-hint)
-
 -- the record after a block, from the one that counts a step
 pub blocked-is : (run counted : Run) (held pending hinted : ℕ) → counted ≡ countedOf run 6 pending
     → record {

@@ -26,48 +26,42 @@ use Rattle.machine.proofs.Steps.{under, Taken, opening, finding, extend
 use Rattle.machine.proofs.Steps.{Judged, roomToOpen, extended, roomToBlock, closed, found, emptied, noRoomToOpen, noRoomToBlock}
 use Rattle.machine.proofs.Steps.{Advanced, tried, spent, advanced}
 use Rattle.machine.proofs.Invariant.{word-length, finals-few, after-few}
-use Rattle.machine.proofs.Standing.{Counted, advanced-counted}
+use Rattle.machine.proofs.Standing.{Counted, Halts, advanced-counted, advanced-halts}
 use Rattle.machine.proofs.LentTables.{column-length, column-back-length, placed-changed, blockers-length, pending-length}
 use Rattle.machine.proofs.Judging.{Even, number-low, wordless}
 use Rattle.machine.proofs.RunsKept.{checked}
-
--- nothing is pending where a run has ended
-abbrev Halts : Next → Type 0
-Halts (goesOn c) = Unit {0}
-Halts (ends outcome c) = c .pending ≡ []
 
 -- the word that was found
 abbrev foundIn : Next → List ℕ
 foundIn (goesOn c) = []
 foundIn (ends outcome c) = wordIn outcome
 
--- where the machine has come to from a configuration in which so many cases were pending: no more are pending than there are levels, none where the run has
--- ended, and a word that was found has a symbol for each that was
+-- where the machine has come to from a configuration in which so many cases were pending: no more are pending than there are levels, and a word that
+-- was found has a symbol for each that was
 record FewPending (before : ℕ) (n : Next) : Type 0 where
   few : length (comesTo n .pending) ≤ comesTo n .level
-  halts : Halts n
   word : numberOf n ≡ 1 → length (foundIn n) ≡ before
 
 taken-few : {S : System} {given : Given} {rooms : Rooms} {c : Configuration} {pending : List Pending} {isOpen : Bool} {st : Step} {n : Next}
     → Taken S given c pending isOpen st → Judged rooms c st n → length pending ≤ c .level → FewPending (length pending) n
 unfolding openStep extendStep blockStep closeWith numberOf endNumber wordIn
 taken-few {S} {c = c} opening (roomToOpen k) l =
-    record { few = omega (arith, finals-few S (c .table) (suc (c .level))); halts = tt; word = λ e. absurd (omega arith) }
-taken-few opening (noRoomToOpen k) l = record { few = omega arith; halts = refl; word = λ e. absurd (omega arith) }
-taken-few (finding {p = p} {rest = rest} s i t u) found l = record { few = omega arith; halts = refl; word = λ e. ap suc (word-length p rest) }
+    record { few = omega (arith, finals-few S (c .table) (suc (c .level))); word = λ e. absurd (omega arith) }
+taken-few opening (noRoomToOpen k) l = record { few = omega arith; word = λ e. absurd (omega arith) }
+taken-few (finding {p = p} {rest = rest} s i t u) found l = record { few = omega arith; word = λ e. ap suc (word-length p rest) }
 taken-few {S} {c = c} (extending {p = p} {rest = rest} s i t u) extended l =
-    record { few = omega (arith, qualified-above S (c .table) (under c rest) (p .case) s t u); halts = tt; word = λ e. absurd (omega arith) }
+    record { few = omega (arith, qualified-above S (c .table) (under c rest) (p .case) s t u); word = λ e. absurd (omega arith) }
 taken-few {S} {c = c} (blocking {rest = rest} f) (roomToBlock {d = d} k) l =
-    record { few = after-few S (d .table) (c .level) rest (omega arith); halts = tt; word = λ e. absurd (omega arith) }
-taken-few (blocking f) (noRoomToBlock k) l = record { few = omega arith; halts = refl; word = λ e. absurd (omega arith) }
-taken-few (closing e) closed l = record { few = omega arith; halts = tt; word = λ e. absurd (omega arith) }
-taken-few (emptying j i h t) emptied l = record { few = omega arith; halts = refl; word = λ e. absurd (omega arith) }
+    record { few = after-few S (d .table) (c .level) rest (omega arith); word = λ e. absurd (omega arith) }
+taken-few (blocking f) (noRoomToBlock k) l = record { few = omega arith; word = λ e. absurd (omega arith) }
+taken-few (closing e) closed l = record { few = omega arith; word = λ e. absurd (omega arith) }
+taken-few (emptying j i h t) emptied l = record { few = omega arith; word = λ e. absurd (omega arith) }
 
 advanced-few : {S : System} {rooms : Rooms} {given : Given} {c : Configuration} {n : Next} → Advanced S rooms given c n
     → length (c .pending) ≤ c .level → FewPending (length (c .pending)) n
 unfolding numberOf endNumber wordIn
 advanced-few {given = given} {c = c} (tried k j) l = taken-few (step-taken {given = given} c) j l
-advanced-few (spent k) l = record { few = omega arith; halts = refl; word = λ e. absurd (omega arith) }
+advanced-few (spent k) l = record { few = omega arith; word = λ e. absurd (omega arith) }
 
 -- 33's test as the proposition, and the proposition as the test
 pub unbroken-means : (rooms : Rooms) (run : RunRecord) → broken rooms run ≡ false → Unbroken rooms run
@@ -286,8 +280,8 @@ module _ (image : List ℕ) (given : Given) (at : Stage) (even : Even (at .table
       let fewer : length (comesTo made .pending) ≤ length (at .tables .word .cases) = omega (arith, waiting .few, counted .word-fits) in
       record {
         room = room-changed (at .tables) even (at .run .held) (at .run .pending) made (bounds .held) (counted .table-fits);
-        cases = cases-changed word (even .symbols) (at .run .pending) few made (waiting .halts) fewer;
-        symbols = λ f. symbols-changed word (even .symbols) (at .run .pending) few made (waiting .halts) f fewer;
+        cases = cases-changed word (even .symbols) (at .run .pending) few made (advanced-halts how) fewer;
+        symbols = λ f. symbols-changed word (even .symbols) (at .run .pending) few made (advanced-halts how) f fewer;
         word = λ e. word-changed word (even .symbols) (at .run .pending) few made e (waiting .word e);
       }
 

@@ -9,7 +9,7 @@ use lib.ListN.{length}
 use Rattle.lists.proofs.Lists.{keep-length}
 use Rattle.machine.specs.System.{System}
 use Rattle.machine.specs.Machine.{Pending, Configuration, Given, Rooms, beginning}
-use Rattle.machine.specs.Machine.{Step, openStep, extendStep, blockStep, frame, closeWith, Next, ends, comesTo, Outcome}
+use Rattle.machine.specs.Machine.{Step, openStep, extendStep, blockStep, frame, closeWith, Next, goesOn, ends, comesTo}
 use Rattle.machine.proofs.Rising.{levels-shorter}
 use Rattle.machine.proofs.Passing.{chosen-is, chosen-hinted}
 use Rattle.machine.proofs.Steps.{under, closedTable, Taken, opening, finding, extending, blocking, closing, emptying, step-taken}
@@ -44,17 +44,24 @@ pub advanced-counted : {S : System} {rooms : Rooms} {given : Given} {c : Configu
 advanced-counted {given = given} {c = c} (tried l j) k = judged-counted (step-taken {given = given} c) j k
 advanced-counted (spent l) k = omega arith
 
--- a step that ends a run leaves nothing pending, and so does a call
-judged-halts : {S : System} {given : Given} {rooms : Rooms} {c left : Configuration} {pending : List Pending} {isOpen : Bool} {st : Step} {outcome : Outcome}
-    → Taken S given c pending isOpen st → Judged rooms c st (ends outcome left) → left .pending ≡ []
+-- nothing is pending where a run has ended: whatever step, and whatever call, ended it
+abbrev pub Halts : Next → Type 0
+Halts (goesOn c) = Unit {0}
+Halts (ends outcome c) = c .pending ≡ []
+
+judged-halts : {S : System} {given : Given} {rooms : Rooms} {c : Configuration} {pending : List Pending} {isOpen : Bool} {st : Step} {n : Next}
+    → Taken S given c pending isOpen st → Judged rooms c st n → Halts n
 unfolding openStep extendStep blockStep closeWith
+judged-halts opening (roomToOpen l) = tt
 judged-halts opening (noRoomToOpen l) = refl
 judged-halts (finding s l t u) found = refl
+judged-halts (extending s l t u) extended = tt
+judged-halts (blocking f) (roomToBlock l) = tt
 judged-halts (blocking f) (noRoomToBlock l) = refl
+judged-halts (closing e) closed = tt
 judged-halts (emptying j l h t) emptied = refl
 
-pub advanced-halts : {S : System} {rooms : Rooms} {given : Given} {c left : Configuration} {outcome : Outcome} → Advanced S rooms given c (ends outcome left)
-    → left .pending ≡ []
+pub advanced-halts : {S : System} {rooms : Rooms} {given : Given} {c : Configuration} {n : Next} → Advanced S rooms given c n → Halts n
 advanced-halts {given = given} {c = c} (tried l j) = judged-halts (step-taken {given = given} c) j
 advanced-halts (spent l) = refl
 
