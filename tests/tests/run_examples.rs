@@ -140,6 +140,28 @@ fn c() {
     assert_eq!(shortest_word(&c), Some(2));
 }
 
+/// Three blocks, of which the first leaves for the third: hint t is asked at the block before which t
+/// were made, and each that passes counts.
+#[test]
+fn three_blocks() {
+    let model = Model::new(2, 3, 2, &[&[(0, 0)]]);
+    let frame = [(1, 3, 6), (2, 3, 7)];
+    for program in [PROGRAM, BY_HITTING_SETS] {
+        for (hints, accepted) in [
+            (&[][..], 0),
+            (&[2], 1),
+            (&[0, 1], 1),
+            (&[0, 1, 2], 2),
+            (&[2, 1, 2, 2], 3),
+            (&[1, 2, 1], 0),
+        ] {
+            let loan = Loan { hints, ..program };
+            expect(&model, loan, [0, 8, 2, 2, accepted], &frame, &[]);
+        }
+    }
+    assert!(is_closed(&model, &[1, 2]));
+}
+
 /// Through a hitting set of {0} and {1, 2}, in which state 1 is picked of the second: so state 2 stays.
 #[test]
 fn c_by_hitting_sets() {

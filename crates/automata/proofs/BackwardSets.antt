@@ -24,18 +24,7 @@ use Rattle.masks.proofs.Laws.{
   within-full,
 }
 use Rattle.automata.specs.Image.{Row}
-use Rattle.automata.specs.Automaton.{Automaton, withRow, withRows, backward, bringAllIn, rowsWalked, takenBack, SameAutomaton}
-
--- the row is one of state q, and its case is inside X
-pub record Leads (row : Row) (q X : ℕ) : Type 0 where
-  pub state : row .state ≡ q
-  pub inside : T (subset (row .case) X)
-
--- some row of the list is
-pub record HasRow (rows : List Row) (q X : ℕ) : Type 0 where
-  pub row : Row
-  pub listed : row ∈ rows
-  pub leads : Leads row q X
+use Rattle.automata.specs.Automaton.{Automaton, withRow, withRows, backward, Leads, HasRow, bringAllIn, rowsWalked, takenBack, SameAutomaton}
 
 with-row-yes : (X set : ℕ) (row : Row) → subset (row .case) X ≡ true → withRow X set row ≡ union set (single (row .state))
 unfolding withRow

@@ -16,7 +16,7 @@ use Rattle.lists.proofs.Lists.{in-none, each-more, first-of-none, first-of-some
 use Rattle.masks.specs.Sets.{Member, member, subset, within}
 use Rattle.masks.proofs.Laws.{member-means, subset-members, members-subset, empty-members, union-members, within-members, members-within}
 use Rattle.automata.specs.Image.{Row}
-use Rattle.automata.specs.Automaton.{Automaton, backward, takenBack}
+use Rattle.automata.specs.Automaton.{Automaton, backward, Leads, HasRow, takenBack}
 use Rattle.automata.specs.Acceptance.{Reaches, Steps, stays, steps}
 use Rattle.automata.specs.Picks.{
   fits,
@@ -32,7 +32,7 @@ use Rattle.automata.specs.Picks.{
   HasPick,
   AllPick,
 }
-use Rattle.automata.proofs.BackwardSets.{Leads, HasRow, backward-members}
+use Rattle.automata.proofs.BackwardSets.{backward-members}
 use Rattle.automata.proofs.ValidImage.{Proper}
 
 -- the row fits exactly if it is one of q's and its case lies inside the set

@@ -1,6 +1,6 @@
 -- What reading an image answers: by what the checks found, and in 01's number and values, for every image; and what a head says of its image. Assumes
 -- nothing.
-use Prim.Native.Nat.{ℕ, zero, suc, _^_, _≤_, _<_}
+use Prim.Native.Nat.{ℕ, zero, suc, _≤_, _<_}
 use mathlib.Core.Path.{_≡_, refl, sym, ap, _∙_}
 use mathlib.Core.List.{List, [], _∷_}
 use native.Mathlib.Omega.{arith}
@@ -9,7 +9,7 @@ use Rattle.automata.specs.Image.{Valid, statesOf, symbolsOf, rowCountOf,
 use Rattle.automata.specs.Answers.{ReadAs, readWith, readImage, imageNumber, headAfter}
 use Rattle.automata.specs.declared.image.Head.{Head}
 use Rattle.automata.specs.declared.image.Image.the-variants as Answer
-use Rattle.automata.proofs.ValidImage.{valid-kept, case-narrow}
+use Rattle.automata.proofs.ValidImage.{valid-kept}
 
 -- the head or the number, by what the checks answer
 pub read-refused : (image : List ℕ) (number : ℕ) → number ≡ checkImage image → (number ≡ 0 → ⊥) → Answer.Refused number ≡ readImage image
@@ -65,9 +65,6 @@ module _ {image : List ℕ} {head : Head} (read : ReadAs image head) where
 
   pub rows-below : (bound : ℕ) → head .rows < bound → rowCountOf image < bound
   rows-below bound l = rw (← head-rows) l
-
-  pub initial-narrow : head .initial < 2 ^ 64
-  initial-narrow = rw head-initial (case-narrow image (read .valid) (initialOf image) (valid-kept image (read .valid) .initial-within))
 
   pub some-state : 1 ≤ head .states
   some-state = rw head-states (valid-kept image (read .valid) .some-state)

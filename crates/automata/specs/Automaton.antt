@@ -4,6 +4,7 @@ use mathlib.Core.Path.{_≡_}
 use mathlib.Core.Bool.{Bool}
 use mathlib.Core.List.{List, [], _∷_}
 use mathlib.Core.Logic.{_↔_}
+use lib.Dec.{T}
 use lib.ListN.{length, take}
 use Rattle.lists.specs.Tests.{choose}
 use Rattle.lists.specs.Lists.{_∈_, firstFrom, orElse}
@@ -39,6 +40,17 @@ withRows X set (row ∷ rows) = withRows X (withRow X set row) rows
 -- "The backward set of a case X by symbol s is the set of states with a row by s whose case is a subset of X." Here of the symbol's rows.
 unfoldable pub backward : List Row → ℕ → ℕ
 backward rows X = withRows X 0 rows
+
+-- the row is one of state q, and its case is a subset of X
+pub record Leads (row : Row) (q X : ℕ) : Type 0 where
+  pub state : row .state ≡ q
+  pub inside : T (subset (row .case) X)
+
+-- one of the rows is: what it means that q is in the backward set of X
+pub record HasRow (rows : List Row) (q X : ℕ) : Type 0 where
+  pub row : Row
+  pub listed : row ∈ rows
+  pub leads : Leads row q X
 
 -- the first `count` rows bring all n states in
 unfoldable pub bringAllIn : ℕ → List Row → ℕ → ℕ → Bool

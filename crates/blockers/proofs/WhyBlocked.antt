@@ -1,5 +1,5 @@
 -- Why a case is blocked, by the level: at 0 it is a question of I, above it one of the blockers. And whether it is, by the reason. Assumes nothing.
-use Prim.Native.Nat.{ℕ, zero, suc, _^_, _<_}
+use Prim.Native.Nat.{ℕ, zero, suc}
 use mathlib.Core.Path.{_≡_, refl, sym, ap, _∙_}
 use mathlib.Core.Bool.{Bool, true, false}
 use mathlib.Core.List.{List}
@@ -8,7 +8,7 @@ use borrow.Author.Tests.{eqb-true, eqb-false}
 use lib.Dec.{eqb}
 use Rattle.masks.specs.Sets.{subset, lowestAbsent}
 use Rattle.masks.specs.declared.State.{State}
-use Rattle.masks.proofs.Laws.{below-within, lowest-none}
+use Rattle.masks.proofs.Laws.{lowest-none}
 use Rattle.machine.specs.Machine.{Blocker, blocked}
 use Rattle.machine.specs.Why.{firstCovering, absentReason, why, isReason}
 use Rattle.machine.proofs.Reasons.{blocked-by-reason}
@@ -43,7 +43,7 @@ module _ (initial : ℕ) (table : List Blocker) (level case : ℕ) (bottom : Boo
       above zero n = absurd (n refl)
       above (suc i) n = refl
 
--- a case is blocked exactly if there is a reason; I is a mask of 64 bits
-pub blocked-told : (initial : ℕ) (table : List Blocker) (level case : ℕ) (r : Reason) (told : Bool) → initial < 2 ^ 64
+-- a case is blocked exactly if there is a reason
+pub blocked-told : (initial : ℕ) (table : List Blocker) (level case : ℕ) (r : Reason) (told : Bool)
     → reasonOf r ≡ why initial table level case → told ≡ isReason (reasonOf r) → told ≡ blocked initial table level case
-blocked-told initial table level case r told narrow e t = t ∙ ap isReason e ∙ blocked-by-reason initial table level case (below-within 64 initial narrow)
+blocked-told initial table level case r told e t = t ∙ ap isReason e ∙ blocked-by-reason initial table level case

@@ -10,11 +10,10 @@ use Rattle.lists.specs.Tests.{choose}
 use Rattle.automata.specs.declared.image.Head.{Head}
 use Rattle.automata.specs.Answers.{ReadAs}
 use Rattle.machine.specs.Machine.{Given}
-use Rattle.machine.specs.Lent.{BlockerRoom, WordRoom, Lent, lentOf}
+use Rattle.machine.specs.Lent.{BlockerRoom, WordRoom, Lent, lentOf, EvenRooms}
 use Rattle.machine.specs.Runs.{Terms, Stage, systemOf, stepGiven, givenOf, checkRun, runOf}
 use Rattle.machine.specs.Records.{Called, workingStep, beginOf, stepWith, stepOf, stepsFrom, reachedBy}
 use Rattle.machine.specs.Promises.{BeginPromises}
-use Rattle.machine.proofs.Judging.{Even}
 use Rattle.machine.proofs.RunsKept.{checked, run-number}
 use Rattle.machine.proofs.AnyRecord.{SameLengths, lengths-same, Takes, takes-checked, work-takes, stepped, stepped-takes, unworked-stays}
 use Rattle.machine.proofs.RecordSteps.{begin-takes}
@@ -23,7 +22,7 @@ use Rattle.checker.specs.declared.record.Run.{Run}
 use Rattle.checker.specs.Stage.{termsOf, stage, wentOn, Ready}
 
 -- what a step needs, of tables as long as those that passed
-takes-ready : {lent : Lent} {at : Stage} → Even lent → length (lent .word .cases) ≤ 65536 → Takes lent at → Ready at
+takes-ready : {lent : Lent} {at : Stage} → EvenRooms lent → length (lent .word .cases) ≤ 65536 → Takes lent at → Ready at
 takes-ready {lent} {at} even few takes =
     let same = takes .same in
     record {

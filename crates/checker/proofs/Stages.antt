@@ -1,5 +1,5 @@
 -- What a step leaves where it touches only one of the rooms, and what the record's bounds give. Assumes nothing.
-use Prim.Native.Nat.{ℕ, _^_, _<_}
+use Prim.Native.Nat.{ℕ}
 use mathlib.Core.Path.{_≡_, refl, sym, ap, _∙_}
 use mathlib.Core.Bool.{Bool, true, false}
 use mathlib.Core.List.{List, [], _∷_}
@@ -62,10 +62,10 @@ unfolding withWord placed
 no-word word = refl
 
 -- F alone: it becomes pending exactly if there is no reason why it is blocked at the level
-module _ (initial finals : ℕ) (table : List Blocker) (level : ℕ) (r : Reason) (told : Bool) (narrow : initial < 2 ^ 64)
+module _ (initial finals : ℕ) (table : List Blocker) (level : ℕ) (r : Reason) (told : Bool)
     (e : reasonOf r ≡ why initial table level finals) (tells : told ≡ isReason (reasonOf r)) where
   test : told ≡ blocked initial table level finals
-  test = blocked-told initial table level finals r told narrow e tells
+  test = blocked-told initial table level finals r told e tells
 
   pub final-blocked : (word : WordRoom) → told ≡ true → Pends 0 (finalPending initial (finals ∷ []) table level) 0 word word
   unfolding finalPending choose

@@ -16,7 +16,7 @@ use Rattle.automata.specs.Image.{symbolsOf, initialOf, rowsOf}
 use Rattle.automata.specs.Automaton.{backward}
 use Rattle.automata.specs.declared.image.Head.{Head}
 use Rattle.automata.specs.Answers.{ReadAs}
-use Rattle.automata.proofs.Reading.{head-symbols, head-initial, initial-narrow}
+use Rattle.automata.proofs.Reading.{head-symbols, head-initial}
 use Rattle.machine.specs.Machine.{settled, qualifies}
 use Rattle.machine.specs.Lent.{blockerAt, unstampedRoom, blockersIn}
 use Rattle.machine.specs.Why.{firstCovering, absentReason, why, isReason}
@@ -98,7 +98,7 @@ module _ {image masks levels : List ℕ} {below X symbols s : ℕ} (tried : Symb
         by-reason : (r : Reason) (told : Bool) → reasonOf r ≡ why (head .initial) (blockersIn masks levels) below P → told ≡ isReason (reasonOf r)
             → told ≡ settled (initialOf image) (blockersIn masks levels) below X P
         by-reason r told e t =
-            settled-told (head .initial) (blockersIn masks levels) below X P inside test r told (initial-narrow read) e t outside
+            settled-told (head .initial) (blockersIn masks levels) below X P inside test r told e t outside
             ∙ ap (λ (I : ℕ). settled I (blockersIn masks levels) below X P) (head-initial read)
 
         module _ (r : Reason) (told : Bool) (low : bottom ≡ true) (start : reasonOf r ≡ absentReason (lowestAbsent (head .initial) P))

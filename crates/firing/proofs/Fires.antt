@@ -32,12 +32,12 @@ use Rattle.masks.proofs.Laws.{
   below-within,
 }
 use Rattle.automata.specs.Image.{Row, Valid, symbolsOf, rowCountOf, rowsStart, rowAt, rowsOf}
-use Rattle.automata.specs.Automaton.{withRow, backward}
+use Rattle.automata.specs.Automaton.{withRow, backward, HasRow}
 use Rattle.automata.specs.Walk.{rowOf, RowsStand}
 use Rattle.automata.specs.declared.rows.Row as Read
 use Rattle.automata.specs.declared.image.Head.{Head}
 use Rattle.automata.specs.Answers.{ReadAs}
-use Rattle.automata.proofs.BackwardSets.{HasRow, backward-members, backward-monotone}
+use Rattle.automata.proofs.BackwardSets.{backward-members, backward-monotone}
 use Rattle.automata.proofs.ValidImage.{valid-kept}
 use Rattle.automata.proofs.Reading.{head-symbols}
 use Rattle.firing.specs.Linked.{placeOf, Belongs, firing, firesAt, Linked}

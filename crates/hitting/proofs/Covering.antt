@@ -43,11 +43,11 @@ module _ (n initial : ℕ) (masks levels : List ℕ) (below X P : ℕ) (inside :
     by-reason f = sym (rw (← test, f, ← told))
 
     -- the blocker at a place
-    module _ (narrow : initial < 2 ^ 64) (place : ℕ) (level : Level) (is : answer ≡ ByBlocker place level) where
+    module _ (place : ℕ) (level : Level) (is : answer ≡ ByBlocker place level) where
       place-in : place < min (length masks) (length levels)
       unfolding reasonOf
       place-in =
-          let first = why-tells initial (blockersIn masks levels) below P (below-within 64 initial narrow) .by-blocker place (level .0)
+          let first = why-tells initial (blockersIn masks levels) below P .by-blocker place (level .0)
           (sym told ∙ ap reasonOf is) .1 in
           omega (
             arith,
@@ -72,9 +72,8 @@ module _ (n initial : ℕ) (masks levels : List ℕ) (below X P : ℕ) (inside :
       pub cover-state : initial < 2 ^ 64 → q .0 < 64
       unfolding reasonOf
       cover-state narrow =
-          let small = below-within 64 initial narrow in
-          let start = why-tells initial (blockersIn masks levels) below P small .by-start (q .0) (sym told ∙ ap reasonOf is) .1 in
-          within-members 64 initial small (q .0) (start .initially)
+          let start = why-tells initial (blockersIn masks levels) below P .by-start (q .0) (sym told ∙ ap reasonOf is) .1 in
+          within-members 64 initial (below-within 64 initial narrow) (q .0) (start .initially)
 
       pub cover-start : (all one r : ℕ) → all ≡ full n → one ≡ union 0 (single (q .0)) → r ≡ without all one → inside ≡ false
           → r ≡ cover n initial (blockersIn masks levels) below X P

@@ -17,10 +17,10 @@ use lib.Seq.{length-take-le, take-all, take-suc-set, drop-cons, drop-set-lt, app
 use Rattle.lists.specs.Tests.{choose}
 use Rattle.lists.specs.Lists.{keep}
 use Rattle.lists.proofs.Tests.{is-true, is-false, choose-true, choose-false}
-use Rattle.lists.proofs.Lists.{keep-length, first-from-some, first-from-before}
+use Rattle.lists.proofs.Lists.{keep-length}
 use Rattle.masks.specs.Sets.{digit, Member, member, subset, full, absent, lowestAbsent}
-use Rattle.masks.proofs.Digits.{digit-and, digit-xor, digit-zero}
-use Rattle.masks.proofs.Laws.{member-means, subset-members, empty-members, no-members, full-members, absent-means}
+use Rattle.masks.proofs.Digits.{digit-and, digit-xor, digit-zero, digit-above}
+use Rattle.masks.proofs.Laws.{member-means, subset-members, empty-members, no-members, full-members, absent-means, lowest-found}
 use Rattle.machine.specs.Hitting.{meets}
 use Rattle.machine.proofs.Greedy.{best-one}
 use Rattle.hitting.specs.Sets.{withCarry, countAll, narrowed, highest, Best}
@@ -292,17 +292,16 @@ module _ (n : ℕ) (planes : List ℕ) (states left : ℕ) (all : states ≡ ful
       empty t = no-members left (λ q i. empty-members q (subset-members left 0 t q i))
 
   -- and with all sets counted the lowest is the one to pick
-  pub lowest-highest : (sets : List ℕ) (count state : ℕ) → count ≤ length sets → count < 8192
+  pub lowest-highest : (sets : List ℕ) (count state : ℕ) → left < 2 ^ 64 → count ≤ length sets → count < 8192
       → planes ≡ countAll (replicate 13 0) (take count sets) → lowestAbsent left 0 ≡ some state → Best n (take count sets) state
-  unfolding lowestAbsent
-  lowest-highest sets count state fits few counted e =
+  lowest-highest sets count state narrow-left fits few counted e =
       record {
         is-best = best-one n state (take count sets) (record {
           is-state = state-of state chosen;
           most = λ q l. omega (arith, counts q, counts state, left-highest .most state q chosen (of-state q l));
           lowest = λ q l. at q l (decLe (meets (take count sets) state) (meets (take count sets) q));
         });
-        fits = omega (arith, found .1);
+        fits = digit-above 64 left narrow-left state chosen;
       }
     where
       left-highest : Highest states planes left
@@ -311,11 +310,11 @@ module _ (n : ℕ) (planes : List ℕ) (states left : ℕ) (all : states ≡ ful
       counts : (q : ℕ) → tally q planes ≡ meets (take count sets) q
       counts q = ap (tally q) counted ∙ tally-meets q (take count sets) (omega (arith, length-take-le count sets fits))
 
-      found : (0 ≤ state) × (state < 0 + 64) × T (absent left 0 state)
-      found = first-from-some (absent left 0) 64 0 e
+      found : T (absent left 0 state) × ((p : ℕ) → p < state → T (absent left 0 p) → ⊥)
+      found = lowest-found left 0 state e
 
       chosen : Member state left
-      chosen = absent-means left 0 state .0 (found .2) .0
+      chosen = absent-means left 0 state .0 (found .0) .0
 
       of-state : (q : ℕ) → q < n → Member q states
       of-state q l = subst (Member q) (sym all) (full-members n q .1 l)
@@ -328,4 +327,4 @@ module _ (n : ℕ) (planes : List ℕ) (states left : ℕ) (all : states ≡ ful
       at q l (no k) = omega arith
       at q l (yes k) =
           let tie = left-highest .ties state q chosen (of-state q (omega (arith, state-of state chosen))) (omega (arith, counts q, counts state)) in
-          absurd (first-from-before (absent left 0) 64 0 e q (omega arith) l (absent-means left 0 q .1 (tie, empty-members q)))
+          absurd (found .1 q l (absent-means left 0 q .1 (tie, empty-members q)))

@@ -1,7 +1,7 @@
 -- Two runs agree: where two systems have the same language and each run's verdict is right, the verdicts are the same, and the words found are
 -- equally long. Assumes nothing.
 use Prim.Native.Nat.{ℕ, _≤_}
-use mathlib.Core.Path.{_≡_, sym, subst}
+use mathlib.Core.Path.{_≡_, sym, subst, _∙_}
 use mathlib.Core.List.{List, []}
 use native.Mathlib.Omega.{arith}
 use lib.Dec.{T}
@@ -11,7 +11,8 @@ use Rattle.machine.specs.System.{System}
 use Rattle.machine.specs.Machine.{Configuration, Rooms, Outcome, nonempty, empty, stepsLack, blockersLack, wordLacks, startsFinal}
 use Rattle.machine.proofs.Language.{IsVerdict, AnswersStart, Word, accepts, Lawful, NoneAccepted, Shortest, SameLanguage}
 use Rattle.machine.proofs.Language.{Agree, both-nonempty, both-empty, both-at-start}
-use Rattle.machine.proofs.Verdicts.{closed-none, RightAnswer}
+use Rattle.machine.proofs.Steps.{ends-once}
+use Rattle.machine.proofs.Verdicts.{closed-none, RightAnswer, starts-final}
 
 -- either of the two may be named first
 pub same-language-symmetric : {S S′ : System} → SameLanguage S S′ → SameLanguage S′ S
@@ -36,11 +37,11 @@ none-shortest : {S S′ : System} {word : List ℕ} → SameLanguage S S′ → 
 none-shortest {word = word} same h none = let other = accepted-too same h in none word (other .0) (other .1)
 
 -- a run beside one that found the start final found it so too
-at-start-too : {S S′ : System} {edition : ℕ} {outcome : Outcome} → SameLanguage S S′ → edition ≡ 2 → T (accepts S′ [])
-    → AnswersStart S edition outcome → Agree outcome startsFinal
+at-start-too : {S S′ : System} {edition : ℕ} {outcome : Outcome} {left : Configuration} → SameLanguage S S′ → edition ≡ 2 → T (accepts S′ [])
+    → AnswersStart S edition outcome left → Agree outcome startsFinal
 at-start-too same second start a =
     let accepted = subst T (sym (same .accepted [] (λ s m. absurd (in-none m)))) start in
-    subst (λ (o : Outcome). Agree o startsFinal) (sym (a second accepted)) both-at-start
+    subst (λ (o : Outcome). Agree o startsFinal) (sym (ends-once (a accepted) ∙ starts-final second)) both-at-start
 
 agree-symmetric : {outcome outcome′ : Outcome} → Agree outcome outcome′ → Agree outcome′ outcome
 agree-symmetric (both-nonempty e) = both-nonempty (sym e)
@@ -50,7 +51,7 @@ agree-symmetric both-at-start = both-at-start
 module _ {S S′ : System} (lawful : Lawful S) (lawful′ : Lawful S′) (same : SameLanguage S S′) (rooms rooms′ : Rooms) (edition : ℕ) where
   -- two right verdicts about one language agree, within one edition
   pub right-verdicts-agree : (outcome outcome′ : Outcome) (left left′ : Configuration) → IsVerdict outcome → IsVerdict outcome′ → RightAnswer S rooms edition outcome left
-      → RightAnswer S′ rooms′ edition outcome′ left′ → AnswersStart S edition outcome → AnswersStart S′ edition outcome′ → Agree outcome outcome′
+      → RightAnswer S′ rooms′ edition outcome′ left′ → AnswersStart S edition outcome left → AnswersStart S′ edition outcome′ left′ → Agree outcome outcome′
   right-verdicts-agree (nonempty word) (nonempty word′) left left′ v v′ r r′ a a′ = both-nonempty (shortest-equal same (r .shortest) (r′ .shortest))
   right-verdicts-agree (nonempty word) empty left left′ v v′ r r′ a a′ =
       absurd (none-shortest same (r .shortest) (closed-none S′ lawful′ (left′ .table) r′))

@@ -15,7 +15,7 @@ use Rattle.automata.proofs.Chained.{test-failed}
 use Rattle.machine.specs.System.{System}
 use Rattle.machine.specs.Machine.{Blocker, Pending, Configuration, Given, Rooms, Step, Next, goesOn, ends, comesTo, advance}
 use Rattle.machine.specs.Machine.{openStep, extendStep, blockStep, closeWith}
-use Rattle.machine.specs.Lent.{WordRoom, Lent, column, columnBack, maskOf, levelOf, enteredOf, caseOf, symbolOf, placed, withTable, withPending, withWord}
+use Rattle.machine.specs.Lent.{WordRoom, Lent, EvenRooms, column, columnBack, maskOf, levelOf, enteredOf, caseOf, symbolOf, placed, withTable, withPending, withWord}
 use Rattle.machine.specs.Runs.{Terms, RunRecord, Stage, systemOf, givenOf, roomsOf, endNumber, numberOf, recordOf, wordIn, wordLeft, tablesAfter}
 use Rattle.machine.specs.Runs.{oddRooms, oversize, checkTerms, checkRun}
 use Rattle.machine.specs.Records.{configurationOf, after, workingStep, Called, answering}
@@ -28,7 +28,7 @@ use Rattle.machine.proofs.Steps.{Advanced, tried, spent, advanced}
 use Rattle.machine.proofs.Invariant.{word-length, finals-few, after-few}
 use Rattle.machine.proofs.Standing.{Counted, Halts, advanced-counted, advanced-halts}
 use Rattle.machine.proofs.LentTables.{column-length, column-back-length, placed-changed, blockers-length, pending-length}
-use Rattle.machine.proofs.Judging.{Even, number-low, wordless}
+use Rattle.machine.proofs.Judging.{number-low, wordless}
 use Rattle.machine.proofs.RunsKept.{checked}
 
 -- the word that was found
@@ -188,7 +188,7 @@ answer-low (goesOn c) = omega arith
 answer-low (ends o c) = omega (arith, number-low o)
 
 -- the tables where the machine has come to n, of which so many places were in use before
-module _ (lent : Lent) (even : Even lent) (held waiting : ℕ) (n : Next) where
+module _ (lent : Lent) (even : EvenRooms lent) (held waiting : ℕ) (n : Next) where
   abbrev afterwards : Lent
   afterwards = tablesAfter held waiting lent n
 
@@ -213,7 +213,7 @@ module _ (room : WordRoom) (even : length (room .cases) ≡ length (room .symbol
       → Changed waiting (length (comesTo n .pending)) (room .cases) (wordLeft waiting n room .cases)
   unfolding wordLeft withPending withWord
   cases-changed (goesOn c) halts l = placed-changed waiting (columnBack caseOf (c .pending)) (room .cases) (column-back-length caseOf (c .pending)) few l
-  cases-changed (ends o c) halts l = placed-changed waiting [] (room .cases) (sym (ap length halts)) few l
+  cases-changed (ends o c) halts l = placed-changed waiting [] (room .cases) (sym (ap length (halts .none-pending))) few l
 
   symbols-changed : (n : Next) → Halts n → (numberOf n ≡ 1 → ⊥) → length (comesTo n .pending) ≤ length (room .cases)
       → Changed waiting (length (comesTo n .pending)) (room .symbols) (wordLeft waiting n room .symbols)
@@ -221,7 +221,7 @@ module _ (room : WordRoom) (even : length (room .cases) ≡ length (room .symbol
   symbols-changed (goesOn c) halts f l =
       placed-changed waiting (columnBack symbolOf (c .pending)) (room .symbols) (column-back-length symbolOf (c .pending)) (omega arith) (omega arith)
   symbols-changed (ends o c) halts f l =
-      placed-changed waiting (wordIn o) (room .symbols) (ap length (wordless o f) ∙ sym (ap length halts)) (omega arith) (omega arith)
+      placed-changed waiting (wordIn o) (room .symbols) (ap length (wordless o f) ∙ sym (ap length (halts .none-pending))) (omega arith) (omega arith)
 
   -- the word has as many symbols as cases were pending
   word-changed : (n : Next) → numberOf n ≡ 1 → length (foundIn n) ≡ waiting → Changed waiting waiting (room .symbols) (wordLeft waiting n room .symbols)
@@ -256,7 +256,7 @@ changes-lengths {at} {called} c = record {
     by false e = c .symbols (eqb-false _ _ e) .long
 
 -- a step of a record that works, of which only 33's bounds are known
-module _ (image : List ℕ) (given : Given) (at : Stage) (even : Even (at .tables)) (bounds : Unbroken (roomsOf (at .tables)) (at .run)) where
+module _ (image : List ℕ) (given : Given) (at : Stage) (even : EvenRooms (at .tables)) (bounds : Unbroken (roomsOf (at .tables)) (at .run)) where
   made : Next
   made = advance (systemOf image) (roomsOf (at .tables)) given (goesOn (configurationOf at))
 

@@ -23,8 +23,9 @@ use Rattle.machine.proofs.Steps.{Judged, roomToOpen, extended, roomToBl
 use Rattle.machine.proofs.Steps.{Advanced, tried, spent, advanced, advanced-counts, advance-made, step-raised}
 use Rattle.machine.proofs.Steps.{chain-keeps, ended-stays, chain-ended-by, works-or-ended, works-once, ends-once, madeBy, step-counts}
 use Rattle.machine.proofs.Invariant.{FinalsClear, beginning-holds}
-use Rattle.machine.proofs.Verdicts.{Holds, RightAnswer, clear-finals, start-accepts, clear-start, start-found, advanced-right}
-use Rattle.machine.proofs.Standing.{Counted, advanced-counted, advanced-halts, beginning-counted}
+use Rattle.machine.proofs.Verdicts.{Holds, RightAnswer, clear-finals, start-accepts, starts-final, starts-nonempty, clear-start, start-found}
+use Rattle.machine.proofs.Verdicts.{advanced-right}
+use Rattle.machine.proofs.Standing.{Counted, Halted, advanced-counted, advanced-halts, beginning-counted}
 use Rattle.machine.proofs.Entering.{Stamped, advanced-stamped, beginning-stamped}
 use Rattle.machine.proofs.Bound.{Bounded, advanced-bounded, working-few, advanced-decided, beginning-bounded}
 
@@ -39,10 +40,10 @@ pub record Working (S : System) (rooms : Rooms) (c : Configuration) : Type 0 whe
 -- what holds of a run that was begun in this edition and has ended
 pub record Done (S : System) (rooms : Rooms) (edition : ℕ) (outcome : Outcome) (left : Configuration) : Type 0 where
   pub right : RightAnswer S rooms edition outcome left
-  pub start : AnswersStart S edition outcome
+  pub start : AnswersStart S edition outcome left
   pub counted : Counted rooms left
   pub stamped : Stamped left
-  pub halts : left .pending ≡ []
+  pub halts : Halted outcome left
 
 abbrev pub Sure : System → Rooms → ℕ → Next → Type 0
 Sure S rooms edition (goesOn c) = Working S rooms c
@@ -91,6 +92,15 @@ begin-begun S edition = at (any (subset (S .initial)) (S .finals)) refl (eqb edi
     at true e true f = finalAtOnce e (eqb-true edition 2 f)
     at true e false f = answered e (eqb-false edition 2 f)
     at false e second f = started e
+
+-- nothing was done at a begin
+pub begin-beginning : (S : System) (edition : ℕ) → comesTo (begin S edition) ≡ beginning
+begin-beginning S edition = at (begin-begun S edition)
+  where
+    at : {n : Next} → Begun S edition n → comesTo n ≡ beginning
+    at (answered e f) = refl
+    at (finalAtOnce e f) = refl
+    at (started e) = refl
 
 -- a start that is not final is the same in each edition
 pub begin-alike : (S : System) → (T (accepts S []) → ⊥) → (edition other : ℕ) → begin S edition ≡ begin S other
@@ -215,17 +225,17 @@ module _ (S : System) (lawful : Lawful S) (rooms : Rooms) (edition : ℕ) where
       at : {n : Next} → Begun S edition n → Sure S rooms edition n
       at (answered e f) = record {
         right = start-found S e;
-        start = λ second t. absurd (f second);
+        start = λ t. ap (λ (outcome : Outcome). ends outcome beginning) (sym (starts-nonempty f));
         counted = beginning-counted rooms;
         stamped = beginning-stamped;
-        halts = refl;
+        halts = record { none-pending = refl; shut = tt };
       }
       at (finalAtOnce e second) = record {
-        right = (second, holds (start-accepts S ∙ e), refl);
-        start = λ second t. refl;
+        right = (second, holds (start-accepts S ∙ e));
+        start = λ t. ap (λ (outcome : Outcome). ends outcome beginning) (sym (starts-final second));
         counted = beginning-counted rooms;
         stamped = beginning-stamped;
-        halts = refl;
+        halts = record { none-pending = refl; shut = tt };
       }
       at (started e) = let clear = clear-finals S e in record {
         clear = clear;
@@ -250,7 +260,7 @@ module _ (S : System) (lawful : Lawful S) (rooms : Rooms) (edition : ℕ) where
       }
       at (ends outcome left) a = record {
         right = advanced-right S lawful (w .clear) edition sound (w .holds) a;
-        start = λ second t. absurd (clear-start S (w .clear) t);
+        start = λ t. absurd (clear-start S (w .clear) t);
         counted = advanced-counted a (w .counted);
         stamped = advanced-stamped a (w .stamped);
         halts = advanced-halts a;
@@ -355,9 +365,23 @@ module _ (S : System) (rooms rooms′ : Rooms) (more-blockers : rooms .blockers 
   chain-stays (raisedOne {given = given} {allowance = more} l raised) v n larger st e =
       chain-stays raised v (advance S rooms given n) (advance S rooms′ (raise more given) larger) (call-stays given more l n larger st) e
 
+  -- as many calls come to the same configuration
+  chain-works : {given given′ : List Given} {d : Configuration} → Raised given given′ → length given′ ≡ length given → (n larger : Next)
+      → Stays n larger → chain S rooms n given ≡ goesOn d → chain S rooms′ larger given′ ≡ goesOn d
+  unfolding chain
+  chain-works (raisedNone {more = []}) same n larger st e = subst (λ (m : Next). Stays m larger) e st
+  chain-works (raisedNone {more = given ∷ more}) same n larger st e = absurd (omega arith)
+  chain-works (raisedOne {given = given} {allowance = more} l raised) same n larger st e =
+      chain-works raised (omega arith) (advance S rooms given n) (advance S rooms′ (raise more given) larger) (call-stays given more l n larger st) e
+
   stays-same : (n : Next) → Stays n n
   stays-same (goesOn c) = refl
   stays-same (ends outcome left) = λ v. refl
+
+  -- so a run that works in smaller rooms works in larger ones, in the same configuration
+  pub chain-works-stays : (edition : ℕ) {given given′ : List Given} {d : Configuration} → Raised given given′ → length given′ ≡ length given
+      → chain S rooms (begin S edition) given ≡ goesOn d → chain S rooms′ (begin S edition) given′ ≡ goesOn d
+  chain-works-stays edition raised same e = chain-works raised same (begin S edition) (begin S edition) (stays-same (begin S edition)) e
 
   -- larger rooms and larger allowances do not change a verdict
   pub chain-verdict-stays : (edition : ℕ) {given given′ : List Given} {outcome : Outcome} {left : Configuration} → Raised given given′ → IsVerdict outcome

@@ -17,7 +17,7 @@ use Rattle.lists.proofs.Counting.{keep-shorter, kept-some, some-kept}
 use Rattle.masks.specs.Sets.{Member, member, union, single, within}
 use Rattle.masks.proofs.Laws.{member-means, empty-members, no-members, union-members, single-members, within-members}
 use Rattle.machine.specs.Hitting.{meets, bestFrom, best, unmet, pickedFrom, picked}
-use Rattle.machine.specs.Promises.{MeetsMost}
+use Rattle.machine.specs.Promises.{MeetsMost, Met}
 
 -- the better of the best state before q and q is the best of both
 better : (sets : List ℕ) (q ahead : ℕ) → MeetsMost q sets ahead → MeetsMost (suc q) sets (bestFrom sets 1 q ahead)
@@ -79,12 +79,6 @@ best-one n q sets a =
 pub record Fit (n set : ℕ) : Type 0 where
   pub not-empty : set ≡ 0 → ⊥
   pub inside : T (within n set)
-
--- a state of the set is picked
-pub record Met (picks set : ℕ) : Type 0 where
-  pub state : ℕ
-  pub inside : Member state set
-  pub chosen : Member state picks
 
 module _ (n : ℕ) where
   -- where one of the sets can be met, the best state meets one

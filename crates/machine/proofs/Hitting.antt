@@ -10,33 +10,32 @@ use lib.Dec.{T, leb→le}
 use lib.ListN.{getD}
 use Rattle.lists.specs.Tests.{neg}
 use Rattle.lists.specs.Lists.{_∈_, here, there, Each}
-use Rattle.lists.proofs.Tests.{holds, fails, decide, and-left, and-right, fails-neg, choose-either}
+use Rattle.lists.proofs.Tests.{decide, is-true, is-false, and-left, and-right, neg-fails, fails-neg, choose-true, choose-false}
 use Rattle.lists.proofs.Lists.{in-none, in-left, in-right, each-more, each-joined, Some, keep-in, in-keep}
 use Rattle.masks.specs.Sets.{Member, member, subset, without, single, within}
 use Rattle.masks.proofs.Laws.{member-means, subset-members, members-subset, subset-transitive, single-members}
 use Rattle.masks.proofs.Laws.{within-members, members-within, without-members, nothing-left, others-members, others-within}
-use Rattle.automata.specs.Image.{Row, Valid, rowsOf}
-use Rattle.automata.specs.Automaton.{backward}
-use Rattle.automata.proofs.BackwardSets.{HasRow, backward-members}
-use Rattle.automata.proofs.ValidImage.{valid-kept, valid-proper}
+use Rattle.automata.specs.Image.{Row, Valid, statesOf, symbolsOf, initialOf, rowsOf}
+use Rattle.automata.specs.Automaton.{backward, HasRow}
+use Rattle.automata.proofs.BackwardSets.{backward-members}
+use Rattle.automata.proofs.ValidImage.{valid-proper}
 use Rattle.machine.specs.System.{System}
-use Rattle.machine.specs.Machine.{Blocker, covers}
-use Rattle.machine.specs.Why.{Reason, byBlocker, byStart, nothing, FirstCovering, LowestAbsent}
+use Rattle.machine.specs.Machine.{Blocker, covers, blocked}
+use Rattle.machine.specs.Why.{Reason, byBlocker, byStart, nothing, why, FirstCovering}
 use Rattle.machine.specs.Lent.{column, maskOf}
 use Rattle.machine.specs.Runs.{systemOf}
-use Rattle.machine.specs.Promises.{WhyPromises}
+use Rattle.machine.specs.Promises.{WhyPromises, Met, RowOutside, FirstMask, AllButLowest, CoverPromises, HittingPromises}
 use Rattle.machine.specs.Hitting.{RowSource, others, coverBy, cover, casesOutside, casesFrom, forbidden, toMeet, picked, byHittingSet, growthOf}
 use Rattle.machine.proofs.Language.{Sound}
 use Rattle.machine.proofs.Tables.{Blocked, byInitial, byBlocker as inBlocker, means-blocked}
 use Rattle.machine.proofs.Passing.{passes-means, means-passes, byStates-sound}
 use Rattle.machine.proofs.LentTables.{in-column, column-at, column-each}
 use Rattle.machine.proofs.Reasons.{why-tells}
-use Rattle.machine.proofs.Greedy.{Fit, Met, all-met, picked-in-some}
+use Rattle.machine.proofs.Greedy.{Fit, all-met, picked-in-some}
 use Rattle.machine.proofs.Counted.{with-cases-each, with-cases-new}
 
 -- what is asked of a system and its rows
 pub record FromRows (S : System) (rows : RowSource) : Type 0 where
-  pub states-fit : S .states ≤ 64
   pub initial-within : T (within (S .states) (S .initial))
   pub case-within : (s : ℕ) → s < S .symbols → Each (λ row. T (within (S .states) (row .case))) (rows s)
   pub backward-of : (s X : ℕ) → s < S .symbols → S .backward s X ≡ backward (rows s) X
@@ -61,51 +60,74 @@ first-mask {place = place} first =
     ∙ ap (λ (at : ℕ). getD (column maskOf (first .first .before ++ first .blocker ∷ first .first .after)) at 0) (first .counted)
     ∙ column-at maskOf (first .first .before) (first .blocker) (first .first .after)
 
-module _ (S : System) (table : List Blocker) (X P Z : ℕ) where
-  -- "b [is] X if the backward set lies in X, else the first covering blocker", by the reason why P is blocked
-  data CoverOf (below : ℕ) : ℕ → Type 0 where
-    itself : T (subset P X) → CoverOf below X
-    byReason : (reason : Reason) → (T (subset P X) → ⊥) → WhyPromises (S .initial) table below P reason
-        → CoverOf below (coverBy (S .states) table X reason)
+-- b is as 02 says it
+cover-kept : (n initial : ℕ) (table : List Blocker) (below X P : ℕ) → CoverPromises n initial table below X P (cover n initial table below X P)
+unfolding cover coverBy
+cover-kept n initial table below X P = record {
+  itself = λ t. choose-true _ _ (is-true _ t);
+  by-blocker = λ f l b. subst (FirstMask table below P) (sym (covered f)) (by-blocker l b (why initial table below P) (why-tells initial table below P));
+  by-start = λ f z b. subst (AllButLowest n initial P) (sym (covered f)) (by-start z b (why initial table below P) (why-tells initial table below P));
+}
+  where
+    covered : (T (subset P X) → ⊥) → cover n initial table below X P ≡ coverBy n table X (why initial table below P)
+    covered f = choose-false _ _ (is-false _ f)
 
-  cover-of : (below : ℕ) → T (within 64 (S .initial)) → CoverOf below (cover (S .states) (S .initial) table below X P)
-  unfolding cover
-  cover-of below narrow =
-      choose-either (CoverOf below) _ (λ t. itself (holds t)) (λ f. byReason _ (fails f) (why-tells (S .initial) table below P narrow))
+    by-blocker : 1 ≤ below → T (blocked initial table below P) → (reason : Reason) → WhyPromises initial table below P reason
+        → FirstMask table below P (coverBy n table X reason)
+    by-blocker l b (byBlocker place level) told = let first = told .by-blocker place level refl .1 in record {
+      place = place;
+      level = level;
+      first = first;
+      its-mask = first-mask first;
+    }
+    by-blocker l b (byStart q) told = absurd (omega (arith, told .by-start q refl .0))
+    by-blocker l b nothing told = absurd (told .none-exactly .0 refl b)
 
+    by-start : below ≡ 0 → T (blocked initial table below P) → (reason : Reason) → WhyPromises initial table below P reason
+        → AllButLowest n initial P (coverBy n table X reason)
+    by-start z b (byBlocker place level) told = absurd (omega (arith, told .by-blocker place level refl .0))
+    by-start z b (byStart q) told = record {
+      state = q;
+      lowest = told .by-start q refl .1;
+      all-but = λ p. (
+        λ i. let other = others-members n (single q) p .0 i in (other .0, λ e. other .1 (single-members q p .1 e)),
+        λ h. others-members n (single q) p .1 (h .0, λ i. h .1 (single-members q p .0 i)),
+      );
+    }
+    by-start z b nothing told = absurd (told .none-exactly .0 refl b)
+
+module _ (S : System) (table : List Blocker) (X P Z b : ℕ) (out : Outside b P Z) where
   -- a blocker that covers P covers Z
-  covers-too : {i place level : ℕ} → 1 ≤ i → FirstCovering table i P place level
-      → Outside (coverBy (S .states) table X (byBlocker place level)) P Z → Blocked S table i Z
-  unfolding coverBy covers
-  covers-too {i = zero} l first out = absurd (omega arith)
-  covers-too {i = suc i} l first out =
+  covers-too : {i : ℕ} → FirstMask table (suc i) P b → Blocked S table (suc i) Z
+  unfolding covers
+  covers-too mask =
+      let first = mask .first in
       inBlocker (record {
         blocker = first .blocker;
         listed = subst (λ (blockers : List Blocker). first .blocker ∈ blockers) (sym (first .first .stands)) (in-right (first .first .before) (here refl));
         high = leb→le _ _ (and-left _ _ (first .first .passes));
-        inside = outside-subset _ P Z (subst (λ (b : ℕ). Outside b P Z) (first-mask first) out) (and-right _ _ (first .first .passes));
+        inside = outside-subset _ P Z (subst (λ (x : ℕ). Outside x P Z) (mask .its-mask) out) (and-right _ _ (first .first .passes));
       })
 
   -- an initial state that P lacks, Z lacks
-  lacks-too : {i q : ℕ} → i ≡ 0 → LowestAbsent (S .initial) P q → Outside (coverBy (S .states) table X (byStart q)) P Z → Blocked S table i Z
-  unfolding coverBy
-  lacks-too {q = q} e missing out =
-      subst (λ (i : ℕ). Blocked S table i Z) (sym e)
-      (byInitial (λ t. missing .lacking
-      (out q (λ m. others-members (S .states) (single q) q .0 m .1 (single-members q q .1 refl))
-      (subset-members (S .initial) Z t q (missing .initially)))))
+  lacks-too : {n : ℕ} → AllButLowest n (S .initial) P b → Blocked S table 0 Z
+  lacks-too all =
+      byInitial (λ t. all .lowest .lacking
+      (out (all .state) (λ m. all .all-but (all .state) .0 m .1 refl) (subset-members (S .initial) Z t (all .state) (all .lowest .initially))))
 
   -- so where P lies in X or is blocked, Z lies in X or is blocked
-  cover-held : (below : ℕ) → T (within 64 (S .initial)) → T (subset P X) ⊎ Blocked S table below P → Outside (cover (S .states) (S .initial) table below X P) P Z
+  cover-held : (below : ℕ) {n : ℕ} → CoverPromises n (S .initial) table below X P b → T (subset P X) ⊎ Blocked S table below P
       → T (subset Z X) ⊎ Blocked S table below Z
-  cover-held below narrow = at (cover-of below narrow)
+  cover-held below told held = at below (decide (subset P X)) told held
     where
-      at : {b : ℕ} → CoverOf below b → T (subset P X) ⊎ Blocked S table below P → Outside b P Z → T (subset Z X) ⊎ Blocked S table below Z
-      at (itself t) held out = inl (outside-subset X P Z out t)
-      at (byReason reason f told) (inl t) out = absurd (f t)
-      at (byReason (byBlocker place level) f told) (inr b) out = let r = told .by-blocker place level refl in inr (covers-too (r .0) (r .1) out)
-      at (byReason (byStart q) f told) (inr b) out = let r = told .by-start q refl in inr (lacks-too (r .0) (r .1) out)
-      at (byReason nothing f told) (inr b) out = absurd (told .none-exactly .0 refl (means-blocked b))
+      at : (i : ℕ) {n : ℕ} → T (subset P X) ⊎ (T (subset P X) → ⊥) → CoverPromises n (S .initial) table i X P b → T (subset P X) ⊎ Blocked S table i P
+          → T (subset Z X) ⊎ Blocked S table i Z
+      at zero (inl t) told held = inl (outside-subset X P Z (subst (λ (x : ℕ). Outside x P Z) (told .itself t) out) t)
+      at (suc i) (inl t) told held = inl (outside-subset X P Z (subst (λ (x : ℕ). Outside x P Z) (told .itself t) out) t)
+      at zero (inr f) told (inl t) = absurd (f t)
+      at (suc i) (inr f) told (inl t) = absurd (f t)
+      at zero (inr f) told (inr held) = inr (lacks-too (told .by-start f refl (means-blocked held)))
+      at (suc i) (inr f) told (inr held) = inr (covers-too (told .by-blocker f (omega arith) (means-blocked held)))
 
 module _ {S : System} {rows : RowSource} (asked : FromRows S rows) (table : List Blocker) (below X : ℕ) where
   -- b of a symbol
@@ -233,13 +255,10 @@ byHittingSet-sound S rows asked table below X t =
       clear = λ i. own .clear (avoids asked table below X (initial-forbidden asked table below X) i);
       inside = others-within (S .states) _;
       backward = λ s l. larger _ _ inside
-          (cover-held S table X (S .backward s X) _ below narrow (own .backward s l) (taken-back asked table below X s l));
+          (cover-held S table X (S .backward s X) _ _ (taken-back asked table below X s l) below
+          (cover-kept (S .states) _ table below X _) (own .backward s l));
     })
   where
-    narrow : T (within 64 (S .initial))
-    narrow =
-        members-within 64 (S .initial) (λ q i. omega (arith, asked .states-fit, within-members (S .states) (S .initial) (asked .initial-within) q i))
-
     larger : (Z grown : ℕ) → T (subset X grown) → T (subset Z X) ⊎ Blocked S table below Z → T (subset Z grown) ⊎ Blocked S table below Z
     larger Z grown k (inl i) = inl (subset-transitive Z X grown i k)
     larger Z grown k (inr b) = inr b
@@ -249,7 +268,6 @@ pub image-rows : (image : List ℕ) → Valid image → FromRows (systemOf image
 image-rows image valid =
     let proper = valid-proper image valid in
     record {
-      states-fit = valid-kept image valid .states-fit;
       initial-within = proper .initial-within;
       case-within = proper .row-case;
       backward-of = λ s X l. refl;
@@ -260,3 +278,46 @@ pub growth-sound : (image : List ℕ) → Valid image → (way : ℕ) → Sound 
 unfolding growthOf
 growth-sound image valid zero = byStates-sound (systemOf image)
 growth-sound image valid (suc way) = byHittingSet-sound (systemOf image) (rowsOf image) (image-rows image valid)
+
+-- the cases of rows outside b, and no others, are forbidden beside I
+module _ (image : List ℕ) (table : List Blocker) (below X : ℕ) where
+  abbrev coverOf : ℕ → ℕ
+  coverOf s = cover (statesOf image) (initialOf image) table below X (backward (rowsOf image s) X)
+
+  outside-each : (count first : ℕ) → first + count ≤ symbolsOf image
+      → Each (RowOutside image coverOf) (casesFrom (systemOf image) (rowsOf image) table below X count first)
+  unfolding casesFrom casesOutside
+  outside-each zero first l = λ case m. absurd (in-none m)
+  outside-each (suc count) first l =
+      each-joined (casesOutside (coverOf first) (rowsOf image first))
+      (column-each (λ row. row .case) (RowOutside image coverOf) _
+      (λ row m. let kept = keep-in (λ row. neg (member (row .state) (coverOf first))) (rowsOf image first) m in record {
+        symbol = first;
+        known = omega arith;
+        row = row;
+        listed = kept .0;
+        outside = λ i. neg-fails _ (kept .1) (member-means (row .state) (coverOf first) .1 i);
+        its-case = refl;
+      }))
+      (outside-each count (suc first) (omega arith))
+
+  forbidden-each : Each (λ case. (case ≡ initialOf image) ⊎ RowOutside image coverOf case) (forbidden (systemOf image) (rowsOf image) table below X)
+  unfolding forbidden
+  forbidden-each = each-more (inl refl) (λ case m. inr (outside-each (symbolsOf image) 0 (omega arith) case m))
+
+  pub hits : Valid image → HittingPromises image table below X coverOf
+      (picked (statesOf image) (toMeet (systemOf image) (rowsOf image) table below X)) (growthOf 1 (systemOf image) (rowsOf image) table below X)
+  unfolding growthOf byHittingSet
+  hits valid =
+      let asked = image-rows image valid in
+      record {
+        covers = λ s. cover-kept (statesOf image) (initialOf image) table below X (backward (rowsOf image s) X);
+        forbids = λ case. (forbidden-each case, by asked case);
+        all-met = λ set m. all-met (statesOf image) _ m (sets-left asked table below X set m .fit);
+        not-picked = λ q. others-members (statesOf image) _ q;
+      }
+    where
+      by : FromRows (systemOf image) (rowsOf image) → (case : ℕ) → (case ≡ initialOf image) ⊎ RowOutside image coverOf case
+          → case ∈ forbidden (systemOf image) (rowsOf image) table below X
+      by asked case (inl e) = rw e (initial-forbidden asked table below X)
+      by asked case (inr r) = rw (r .its-case) (row-forbidden asked table below X (r .known) (r .listed) (r .outside))

@@ -7,7 +7,7 @@ use mathlib.Core.Logic.{_⊎_, inl, inr, _↔_}
 use lib.Dec.{T}
 use lib.ListN.{length}
 use Rattle.lists.proofs.Tests.{or-none}
-use Rattle.lists.specs.Lists.{_∈_, any}
+use Rattle.lists.specs.Lists.{_∈_, Each, any}
 use Rattle.lists.proofs.Lists.{in-none, in-cases}
 use Rattle.masks.specs.Sets.{subset, within}
 use Rattle.automata.specs.Image.{Valid, statesOf, symbolsOf, initialOf, finalOf, rowsOf}
@@ -60,6 +60,12 @@ unfolding accepts acceptsBack any
 system-accepts image word =
     or-none (subset (initialOf image) (takenBack (systemOf image) word (finalOf image)))
     ∙ ap (subset (initialOf image)) (taken-same image word (finalOf image))
+
+-- a word is accepted by runs exactly if its symbols are the image's and F, taken back by them, contains I
+pub accepted-exactly : (image word : List ℕ) → Valid image → Accepted (automatonOf image) word
+    ↔ (Each (λ s. s < symbolsOf image) word × T (subset (initialOf image) (takenBackBy (automatonOf image) word (finalOf image))))
+unfolding acceptsBack
+accepted-exactly image word valid = accepted-means (automatonOf image) (valid-proper image valid) word
 
 -- a word is accepted by runs exactly if it is a word of the system that the system accepts
 pub accepted-by-runs : (image : List ℕ) → Valid image → (word : List ℕ)

@@ -24,9 +24,9 @@ use Rattle.machine.proofs.Tables.{Stands, blocked-stays-blocked}
 use Rattle.machine.proofs.Rising.{Kept, Grown, Enters, putAmong, put-putAmong-new, put-putAmong-from, entered-grown, levels-grown}
 use Rattle.machine.proofs.Passing.{Passes, Held, qualified-free, qualified-above}
 
--- where the case before `rest` comes from: it is a final case, or the backward set by its symbol of the first case of `rest`
+-- where the case before `rest` comes from: it is a final case, "and 0 for the first one's symbol", or the backward set by its symbol of the first case of `rest`
 pub data Comes (S : System) (p : Pending) : List Pending → Type 0 where
-  final : p .case ∈ S .finals → Comes S p []
+  final : p .case ∈ S .finals → p .symbol ≡ 0 → Comes S p []
   backward : {q : Pending} {rest : List Pending} → p .symbol < S .symbols → p .case ≡ S .backward (p .symbol) (q .case) → Comes S p (q ∷ rest)
 
 -- The case p waits before `rest`, at the level N − length rest: that is 1 or more, the case is not blocked there, does not contain I and has no bit
@@ -72,6 +72,14 @@ module _ {S : System} {table : List Blocker} {N : ℕ} where
   chain-length nothing = omega arith
   chain-length (lowest w c) = w .high
 
+-- the first pending case, which stands behind those of lower levels, has the symbol 0
+pub first-symbol : {S : System} {table : List Blocker} {N : ℕ} (lower : List Pending) (p : Pending) → Chain S table N (lower ++ p ∷ []) → p .symbol ≡ 0
+first-symbol {S} [] p c = at (chain-lowest c .comes)
+  where
+    at : Comes S p [] → p .symbol ≡ 0
+    at (final m zeroed) = zeroed
+first-symbol (q ∷ lower) p c = first-symbol lower p (chain-rest c)
+
 -- the word of the pending cases takes a final case back to the lowest of them
 pub record Origin (S : System) (p : Pending) (rest : List Pending) : Type 0 where
   pub final : ℕ
@@ -85,7 +93,7 @@ unfolding wordOf takenBack
 chain-origin {S} p [] c = at (chain-lowest c .comes)
   where
     at : Comes S p [] → Origin S p []
-    at (final m) = record { final = p .case; listed = m; taken = refl; symbols = λ s k. absurd (in-none k) }
+    at (final m zeroed) = record { final = p .case; listed = m; taken = refl; symbols = λ s k. absurd (in-none k) }
 chain-origin {S} p (q ∷ rest) c = at (chain-lowest c .comes) (chain-origin q rest (chain-rest c))
   where
     at : Comes S p (q ∷ rest) → Origin S q rest → Origin S p (q ∷ rest)
@@ -256,7 +264,7 @@ module _ {S : System} (lawful : Lawful S) (finalsClear : FinalsClear S) where
       at (oneWaits F m f) =
           lowest
           (record {
-            comes = final m;
+            comes = final m refl;
             high = positive;
             free = λ i l c. f (covered-blocked stands N (covered-lower (omega arith) (subset-reflexive F) c));
             clear = finalsClear F m;

@@ -1,7 +1,8 @@
 -- A run that has ended keeps the rules by which it is judged, from what holds of its outcome; whatever its calls were given, at once or step by step.
 -- Assumes nothing.
 use Prim.Native.Nat.{ℕ, suc, _-_, _^_, _≤_, _<_}
-use mathlib.Core.Path.{_≡_, refl, sym, ap, ap₂, subst, _∙_}
+use mathlib.Core.Path.{_≡_, refl, sym, ap, subst, _∙_}
+use mathlib.Core.Bool.{false}
 use mathlib.Core.List.{List, [], _∷_, _++_}
 use mathlib.Core.Logic.{_↔_, _⊎_, inl, inr}
 use native.Mathlib.Omega.{arith}
@@ -13,14 +14,15 @@ use Rattle.automata.specs.Image.{Valid, statesOf}
 use Rattle.automata.specs.Automaton.{automatonOf, HoldOne}
 use Rattle.automata.specs.Acceptance.{Accepted}
 use Rattle.machine.specs.System.{System}
-use Rattle.machine.specs.Machine.{Blocker, Configuration, Given, Rooms, beginning, goesOn, ends, chain, begin}
+use Rattle.machine.specs.Machine.{Blocker, Configuration, Given, Rooms, beginning, goesOn, ends, chain, startAnswer, begin}
 use Rattle.machine.specs.Machine.{Outcome, nonempty, empty, stepsLack, blockersLack, wordLacks, startsFinal}
 use Rattle.machine.specs.Meaning.{Closed, EnteredInOrder}
-use Rattle.machine.specs.Lent.{BlockerRoom, EvenRoom, Lent, zeroed, column, columnBack, placed, eachTable, withTable, withPending, withWord}
+use Rattle.machine.specs.Lent.{BlockerRoom, Lent, EvenRooms, zeroed, column, columnBack, placed, eachTable, withTable, withPending, withWord}
 use Rattle.machine.specs.Runs.{Stage, systemOf, roomsOf, endNumber, numberOf, recordOf, wordIn, wordLeft, tablesAfter, shown, alone}
 use Rattle.machine.specs.Promises.{heldBy, WordFound, Rules, RunEnded, Verdict, Decides, Agreed}
 use Rattle.machine.proofs.Language.{IsVerdict, Word, accepts, Lawful, NoneShorter, Agree, both-nonempty, both-empty, both-at-start}
-use Rattle.machine.proofs.Verdicts.{RightAnswer, closed-none}
+use Rattle.machine.proofs.Steps.{ends-once}
+use Rattle.machine.proofs.Verdicts.{RightAnswer, closed-none, starts-final, starts-nonempty}
 use Rattle.machine.proofs.Entering.{Stamped}
 use Rattle.machine.proofs.Chains.{Done, AllSound, chain-done, chain-ended, chain-decided, chain-verdict-stays}
 use Rattle.machine.proofs.Agreeing.{right-verdicts-agree}
@@ -52,13 +54,8 @@ stop-low : {number : ℕ} → (number ≡ 2) ⊎ (number ≡ 3) → (1 < number)
 stop-low (inl e) = omega (arith, e)
 stop-low (inr e) = omega (arith, e)
 
--- lent tables of a room are equally long
-pub record Even (lent : Lent) : Type 0 where
-  pub blockers : EvenRoom (lent .room)
-  pub symbols : length (lent .word .cases) ≡ length (lent .word .symbols)
-
 -- where no blocker is held, nothing is pending and no word was found, every place is 0
-module _ (lent : Lent) (even : Even lent) where
+module _ (lent : Lent) (even : EvenRooms lent) where
   no-blockers : withTable (length (lent .room .masks)) [] (lent .room) ≡ zeroed lent .room
   unfolding withTable column
   no-blockers =
@@ -76,7 +73,7 @@ module _ (lent : Lent) (even : Even lent) where
   unfolding tablesAfter wordLeft withPending columnBack
   works-zero c table pending = rw (table, pending, no-blockers, placed-none (lent .word .cases), no-symbols)
 
-module _ (lent : Lent) (even : Even lent) (o : Outcome) (c : Configuration) where
+module _ (lent : Lent) (even : EvenRooms lent) (o : Outcome) (c : Configuration) where
   -- what the blocker room holds when these blockers stand in it
   endRoom : List Blocker → BlockerRoom
   endRoom table = eachTable (λ field before. column field table ++ replicate (length before - length table) 0) (lent .room)
@@ -110,7 +107,7 @@ module _ (lent : Lent) (even : Even lent) (o : Outcome) (c : Configuration) wher
   unfolding recordOf
   entered-in-order = subst (EnteredInOrder 0 (c .steps)) (sym held-end)
 
-module _ (image : List ℕ) (lent : Lent) (edition : ℕ) (valid : Valid image) (even : Even lent) where
+module _ (image : List ℕ) (lent : Lent) (edition : ℕ) (valid : Valid image) (even : EvenRooms lent) where
   S : System
   S = systemOf image
 
@@ -123,7 +120,7 @@ module _ (image : List ℕ) (lent : Lent) (edition : ℕ) (valid : Valid image) 
   -- in edition 2 the word that was found is not the empty one, since then the start would have been answered as final
   not-the-empty-word : (word : List ℕ) {c : Configuration} → Done (systemOf image) (roomsOf lent) edition (nonempty word) c → edition ≡ 2 → 1 ≤ length word
   unfolding endNumber
-  not-the-empty-word [] d second = absurd (omega (arith, ap endNumber (d .start second (d .right .shortest .accepted))))
+  not-the-empty-word [] d second = absurd (omega (arith, ap endNumber (ends-once (d .start (d .right .shortest .accepted)) ∙ starts-final second)))
   not-the-empty-word (s ∷ word) d second = omega arith
 
   found : (o : Outcome) {c : Configuration} → Done (systemOf image) (roomsOf lent) edition o c → endNumber o ≡ 1
@@ -179,10 +176,10 @@ module _ (image : List ℕ) (lent : Lent) (edition : ℕ) (valid : Valid image) 
       → RightAnswer (systemOf image) (roomsOf lent) edition startsFinal c
   final-right o {c} d e = subst (λ (x : Outcome). RightAnswer (systemOf image) (roomsOf lent) edition x c) (shows-final o e) (d .right)
 
-  starts-final : (o : Outcome) {c : Configuration} → Done (systemOf image) (roomsOf lent) edition o c
+  final-exactly : (o : Outcome) {c : Configuration} → Done (systemOf image) (roomsOf lent) edition o c
       → (endNumber o ≡ 5) ↔ ((edition ≡ 2) × Accepted (automatonOf image) [])
   unfolding endNumber
-  starts-final o d = (accepted, answered)
+  final-exactly o d = (accepted, answered)
     where
       accepted : endNumber o ≡ 5 → (edition ≡ 2) × Accepted (automatonOf image) []
       accepted e =
@@ -190,16 +187,36 @@ module _ (image : List ℕ) (lent : Lent) (edition : ℕ) (valid : Valid image) 
           (right .0, accepted-by-runs image valid [] .1 (λ s m. absurd (in-none m), right .1))
 
       answered : (edition ≡ 2) × Accepted (automatonOf image) [] → endNumber o ≡ 5
-      answered h = ap endNumber (d .start (h .0) (means [] (h .1) .1))
+      answered h = ap endNumber (ends-once (d .start (means [] (h .1) .1)) ∙ starts-final (h .0))
 
-  at-start : shown lent (ends startsFinal beginning) ≡ alone (zeroed lent) 5
-  unfolding recordOf numberOf endNumber beginning wordIn
-  at-start = rw (ends-zero lent even startsFinal beginning refl refl)
+  -- a start that is final, answered so: nothing was done
+  at-start : (o answer : Outcome) {c : Configuration} → Done (systemOf image) (roomsOf lent) edition o c → T (accepts (systemOf image) [])
+      → startAnswer edition ≡ answer → wordIn answer ≡ [] → shown lent (ends o c) ≡ alone (zeroed lent) (endNumber answer)
+  unfolding recordOf numberOf beginning
+  at-start o answer d t is none =
+      ap (shown lent) (d .start t)
+      ∙ ap (λ (x : Outcome). shown lent (ends x beginning)) is
+      ∙ rw (ends-zero lent even answer beginning refl none)
 
-  nothing-done : (o : Outcome) {c : Configuration} → Done (systemOf image) (roomsOf lent) edition o c → endNumber o ≡ 5
+  starts-final-leaves : (o : Outcome) {c : Configuration} → Done (systemOf image) (roomsOf lent) edition o c → endNumber o ≡ 5
       → shown lent (ends o c) ≡ alone (zeroed lent) 5
-  nothing-done o d e =
-      ap₂ (λ (x : Outcome) (left : Configuration). shown lent (ends x left)) (shows-final o e) (final-right o d e .2) ∙ at-start
+  unfolding endNumber wordIn
+  starts-final-leaves o d e = let right = final-right o d e in at-start o startsFinal d (right .1) (starts-final (right .0)) refl
+
+  starts-nonempty-leaves : (o : Outcome) {c : Configuration} → Done (systemOf image) (roomsOf lent) edition o c → edition ≡ 1
+      → Accepted (automatonOf image) [] → shown lent (ends o c) ≡ alone (zeroed lent) 1
+  unfolding endNumber wordIn
+  starts-nonempty-leaves o d first a = at-start o (nonempty []) d (means [] a .1) (starts-nonempty (λ second. omega arith)) refl
+
+  -- after 0 no level is open
+  empty-shut : (o : Outcome) {c : Configuration} → Done (systemOf image) (roomsOf lent) edition o c → endNumber o ≡ 0 → c .isOpen ≡ false
+  unfolding endNumber
+  empty-shut empty d e = d .halts .shut
+  empty-shut (nonempty word) d e = absurd (omega arith)
+  empty-shut stepsLack d e = absurd (omega arith)
+  empty-shut blockersLack d e = absurd (omega arith)
+  empty-shut wordLacks d e = absurd (omega arith)
+  empty-shut startsFinal d e = absurd (omega arith)
 
   -- what a stop has shown of the system's words
   stop-shows : (o : Outcome) {c : Configuration} → Done (systemOf image) (roomsOf lent) edition o c → 1 < endNumber o → endNumber o < 4
@@ -230,12 +247,14 @@ module _ (image : List ℕ) (lent : Lent) (edition : ℕ) (valid : Valid image) 
         nonempty = found o d;
         empty = none-accepted o d;
         empty-frame = closed-frame o d;
-        starts-final = starts-final o d;
-        starts-final-leaves = nothing-done o d;
+        starts-final = final-exactly o d;
+        starts-final-leaves = starts-final-leaves o d;
+        starts-nonempty = starts-nonempty-leaves o d;
         stop-shows = λ s word a. let low = stop-low s in omega (arith, none-shorter-by-runs image valid (stop-shows o d (low .0) (low .1)) word a);
         word-stop-shows = λ e word a. omega (arith, none-shorter-by-runs image valid (word-stop-shows o d e) word a);
         other = number-low o;
-        none-pending = ap length (d .halts);
+        none-pending = ap length (d .halts .none-pending);
+        empty-shut = empty-shut o d;
         held-fits = d .counted .table-fits;
         leaves-cases = cases-end lent even o c;
         leaves-symbols = leaves-symbols o c;
@@ -288,7 +307,7 @@ decided-number wordLacks d v = absurd v
 decided-number startsFinal d v = inr (d .right .0, refl)
 
 -- a run that was begun in this edition and called so has ended, and r is what it left
-module _ (image : List ℕ) (lent : Lent) (edition : ℕ) (valid : Valid image) (even : Even lent) {calls : List Given} (sound : AllSound (systemOf image) calls)
+module _ (image : List ℕ) (lent : Lent) (edition : ℕ) (valid : Valid image) (even : EvenRooms lent) {calls : List Given} (sound : AllSound (systemOf image) calls)
     {o : Outcome} {c : Configuration} (is : chain (systemOf image) (roomsOf lent) (begin (systemOf image) edition) calls ≡ ends o c)
     {r : Stage} (shows : r ≡ shown lent (ends o c))
   where

@@ -10,7 +10,7 @@ use lib.ListN.{length}
 use Rattle.lists.specs.Lists.{Each, any}
 use Rattle.masks.specs.Sets.{subset, within}
 use Rattle.machine.specs.System.{System}
-use Rattle.machine.specs.Machine.{Blocker, Configuration, Growth, passes}
+use Rattle.machine.specs.Machine.{Blocker, Configuration, Growth, passes, beginning, startAnswer, ends}
 use Rattle.machine.specs.Machine.{Outcome, nonempty, empty, stepsLack, blockersLack, wordLacks, startsFinal}
 
 -- the case taken back by the word's symbols from last to first
@@ -66,9 +66,9 @@ pub record Decided (most : ℕ) (outcome : Outcome) (left : Configuration) : Typ
   pub verdict : IsVerdict outcome
   pub in-time : left .steps ≤ most
 
--- in edition 2 a start that is final is answered as such
-abbrev pub AnswersStart : System → ℕ → Outcome → Type 0
-AnswersStart S edition outcome = edition ≡ 2 → T (accepts S []) → outcome ≡ startsFinal
+-- a start that is final was answered as such, in its edition, and nothing was done
+abbrev pub AnswersStart : System → ℕ → Outcome → Configuration → Type 0
+AnswersStart S edition outcome left = T (accepts S []) → ends outcome left ≡ ends (startAnswer edition) beginning
 
 -- the same words, of which the same are accepted
 pub record SameLanguage (S S′ : System) : Type 0 where

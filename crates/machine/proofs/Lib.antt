@@ -13,6 +13,7 @@ pub mod Bound
 pub mod Agreeing
 pub mod Chains
 pub mod Unpending
+pub mod Blocks
 pub mod LentTables
 pub mod Unstamped
 pub mod Reasons

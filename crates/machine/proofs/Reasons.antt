@@ -11,11 +11,11 @@ use native.Mathlib.Omega.{arith}
 use lib.Dec.{T}
 use lib.ListN.{length}
 use Rattle.lists.specs.Tests.{_or_, neg, choose}
-use Rattle.lists.specs.Lists.{any, firstFrom}
+use Rattle.lists.specs.Lists.{any}
 use Rattle.lists.proofs.Tests.{holds, fails, is-true, is-false, or-neither, choose-true, choose-false}
-use Rattle.lists.proofs.Lists.{in-none, each-more, first-from-none, first-from-some, first-from-before}
-use Rattle.masks.specs.Sets.{subset, within, absent, lowestAbsent}
-use Rattle.masks.proofs.Laws.{within-members, absent-means, not-absent, none-absent, one-absent}
+use Rattle.lists.proofs.Lists.{in-none, each-more}
+use Rattle.masks.specs.Sets.{subset, lowestAbsent}
+use Rattle.masks.proofs.Laws.{absent-means, not-absent, one-absent, lowest-found, none-found}
 use Rattle.machine.specs.Machine.{Blocker, covers, blocked}
 use Rattle.machine.specs.Why.{Reason, byBlocker, byStart, nothing, firstCovering, absentReason, why, isReason, FirstCovering, LowestAbsent}
 use Rattle.machine.specs.Promises.{WhyPromises}
@@ -56,25 +56,19 @@ covering-any i X place (blocker ∷ table) = at (covering-any i X (suc place) ta
     at rec false = rec
 
 -- an initial state is absent exactly if the case does not contain I
-absent-any : (initial X : ℕ) → T (within 64 initial) → isReason (absentReason (lowestAbsent initial X)) ≡ neg (subset initial X)
-unfolding isReason absentReason lowestAbsent neg
-absent-any initial X narrow = at (firstFrom (absent initial X) 64 0) refl
+absent-any : (initial X : ℕ) → isReason (absentReason (lowestAbsent initial X)) ≡ neg (subset initial X)
+unfolding isReason absentReason neg
+absent-any initial X = at (lowestAbsent initial X) refl
   where
-    at : (found : Option ℕ) → firstFrom (absent initial X) 64 0 ≡ found → isReason (absentReason found) ≡ neg (subset initial X)
-    at none e = sym (ap neg {x = subset initial X} (is-true (subset initial X) (none-absent initial X nowhere)))
-      where
-        nowhere : (q : ℕ) → T (absent initial X q) → ⊥
-        nowhere q t =
-            let below = within-members 64 initial narrow q (absent-means initial X q .0 t .0) in
-            first-from-none (absent initial X) 64 0 e q (omega arith) (omega arith) t
-    at (some q) e = sym (ap neg {x = subset initial X} (is-false (subset initial X) (one-absent initial X q (first-from-some (absent initial X) 64 0 e .2))))
+    at : (found : Option ℕ) → lowestAbsent initial X ≡ found → isReason (absentReason found) ≡ neg (subset initial X)
+    at none e = sym (ap neg {x = subset initial X} (is-true (subset initial X) (none-found initial X e)))
+    at (some q) e = sym (ap neg {x = subset initial X} (is-false (subset initial X) (one-absent initial X q (lowest-found initial X q e .0))))
 
 -- the one law: a case is blocked exactly if there is a reason
-pub blocked-by-reason : (initial : ℕ) (table : List Blocker) (i X : ℕ) → T (within 64 initial)
-    → isReason (why initial table i X) ≡ blocked initial table i X
+pub blocked-by-reason : (initial : ℕ) (table : List Blocker) (i X : ℕ) → isReason (why initial table i X) ≡ blocked initial table i X
 unfolding why blocked
-blocked-by-reason initial table zero X narrow = absent-any initial X narrow
-blocked-by-reason initial table (suc i) X narrow = covering-any (suc i) X 0 table
+blocked-by-reason initial table zero X = absent-any initial X
+blocked-by-reason initial table (suc i) X = covering-any (suc i) X 0 table
 
 -- the blocker that is found, its place counted from `from`
 record Found (table : List Blocker) (i X from place level : ℕ) : Type 0 where
@@ -143,17 +137,17 @@ absent-no-blocker none place level e = let z : _≡_ {A = ℕ} 0 1 = cc in omega
 absent-no-blocker (some q) place level e = let z : _≡_ {A = ℕ} 0 1 = cc in omega arith
 
 -- the state that is found
-lowest-found : (initial X q : ℕ) (found : Option ℕ) → firstFrom (absent initial X) 64 0 ≡ found → absentReason found ≡ byStart q → LowestAbsent initial X q
+lowest-is : (initial X q : ℕ) (found : Option ℕ) → lowestAbsent initial X ≡ found → absentReason found ≡ byStart q → LowestAbsent initial X q
 unfolding absentReason
-lowest-found initial X q none e r = let z : _≡_ {A = ℕ} 0 1 = cc in absurd (omega arith)
-lowest-found initial X q (some s) e r =
+lowest-is initial X q none e r = let z : _≡_ {A = ℕ} 0 1 = cc in absurd (omega arith)
+lowest-is initial X q (some s) e r =
     let same : s ≡ q = cc in
-    let found : firstFrom (absent initial X) 64 0 ≡ some q = e ∙ ap (λ (x : ℕ). some x) same in
-    let lacking = absent-means initial X q .0 (first-from-some (absent initial X) 64 0 found .2) in
+    let found = lowest-found initial X q (e ∙ ap (λ (x : ℕ). some x) same) in
+    let lacking = absent-means initial X q .0 (found .0) in
     record {
       initially = lacking .0;
       lacking = lacking .1;
-      lowest = λ p l m. not-absent initial X p m (first-from-before (absent initial X) 64 0 found p (omega arith) l);
+      lowest = λ p l m. not-absent initial X p m (found .1 p l);
     }
 
 by-blocker : (initial : ℕ) (table : List Blocker) (i X place level : ℕ) → why initial table i X ≡ byBlocker place level
@@ -166,8 +160,8 @@ by-blocker initial table (suc i) X place level e =
     (omega arith, subst (λ (k : ℕ). FirstCovering table (suc i) X k level) counted (found .first))
 
 by-start : (initial : ℕ) (table : List Blocker) (i X q : ℕ) → why initial table i X ≡ byStart q → (i ≡ 0) × LowestAbsent initial X q
-unfolding why lowestAbsent
-by-start initial table zero X q e = (refl, lowest-found initial X q (firstFrom (absent initial X) 64 0) refl e)
+unfolding why
+by-start initial table zero X q e = (refl, lowest-is initial X q (lowestAbsent initial X) refl e)
 by-start initial table (suc i) X q e = absurd (covering-no-state (suc i) X 0 table q e)
 
 -- there is no reason exactly if the answer is nothing
@@ -177,9 +171,9 @@ reason-nothing (byBlocker place level) = (λ e. let z : _≡_ {A = ℕ} 0 1 = cc
 reason-nothing (byStart q) = (λ e. let z : _≡_ {A = ℕ} 0 1 = cc in absurd (omega arith), λ f. absurd (f tt))
 reason-nothing nothing = (λ e t. t, λ f. refl)
 
-pub why-tells : (initial : ℕ) (table : List Blocker) (i X : ℕ) → T (within 64 initial) → WhyPromises initial table i X (why initial table i X)
-why-tells initial table i X narrow =
-    let same = blocked-by-reason initial table i X narrow in
+pub why-tells : (initial : ℕ) (table : List Blocker) (i X : ℕ) → WhyPromises initial table i X (why initial table i X)
+why-tells initial table i X =
+    let same = blocked-by-reason initial table i X in
     let none = reason-nothing (why initial table i X) in
     record {
       by-blocker = by-blocker initial table i X;

@@ -13,13 +13,13 @@ use Rattle.lists.specs.Lists.{keep}
 use Rattle.machine.specs.System.{System}
 use Rattle.machine.specs.Machine.{Blocker, Configuration, Given, Rooms, beginning, Next, goesOn, ends, comesTo, advance, chain, begin}
 use Rattle.machine.specs.Machine.{nonempty, startsFinal}
-use Rattle.machine.specs.Lent.{Lent, zeroed, column, placed, withTable}
+use Rattle.machine.specs.Lent.{Lent, EvenRooms, zeroed, column, placed, withTable}
 use Rattle.machine.specs.Runs.{Terms, Stage, systemOf, givenOf, roomsOf, endNumber, numberOf, recordOf, wordIn, wordLeft, tablesAfter, shown, checkRun}
 use Rattle.machine.specs.Records.{configurationOf, after, workingStep, Called, stepOf, stepsFrom, unrefused, givenBy}
 use Rattle.machine.specs.Promises.{Unbroken}
 use Rattle.machine.proofs.Chains.{Begun, answered, finalAtOnce, started, begin-begun}
 use Rattle.machine.proofs.LentTables.{column-length, placed-again, pending-again, word-again, tables-same, read-back-table, read-back-placed}
-use Rattle.machine.proofs.Judging.{Even, number-low, ends-zero, works-zero}
+use Rattle.machine.proofs.Judging.{number-low, ends-zero, works-zero}
 use Rattle.machine.proofs.AnyRecord.{SameLengths, Takes, takes-checked, room-changed, cases-changed}
 use Rattle.machine.proofs.AnyRecord.{Stepped, refused, finished, worked, stepped, stepped-refused, stepped-takes, unworked-left}
 
@@ -29,7 +29,7 @@ record Fitting (lent : Lent) (c : Configuration) : Type 0 where
   pending : length (c .pending) ≤ length (lent .word .cases)
 
 -- "begin .. makes the start": all places 0 are what it shows, since it has no blocker, nothing pending and no symbol of a word
-pub begin-shown : (S : System) (lent : Lent) → Even lent → (edition : ℕ) → zeroed lent ≡ shown lent (begin S edition) .tables
+pub begin-shown : (S : System) (lent : Lent) → EvenRooms lent → (edition : ℕ) → zeroed lent ≡ shown lent (begin S edition) .tables
 unfolding wordIn beginning
 begin-shown S lent even edition = at (begin-begun S edition)
   where
@@ -38,7 +38,7 @@ begin-shown S lent even edition = at (begin-begun S edition)
     at (finalAtOnce e f) = sym (ends-zero lent even startsFinal beginning refl refl)
     at (started e) = sym (works-zero lent even beginning refl refl)
 
-module _ (lent : Lent) (even : Even lent) (c : Configuration) (fit : Fitting lent c) where
+module _ (lent : Lent) (even : EvenRooms lent) (c : Configuration) (fit : Fitting lent c) where
   -- the rooms are as large as those that were lent
   rooms-shown : roomsOf (shown lent (goesOn c) .tables) ≡ roomsOf lent
   unfolding tablesAfter
@@ -95,7 +95,7 @@ module _ (lent : Lent) (even : Even lent) (c : Configuration) (fit : Fitting len
       ∙ after-shown (advance (systemOf image) (roomsOf lent) given (goesOn c))
 
 -- what a begin shows, the first step takes
-pub begin-takes : (S : System) (lent : Lent) → Even lent → (edition : ℕ) → Takes lent (shown lent (begin S edition))
+pub begin-takes : (S : System) (lent : Lent) → EvenRooms lent → (edition : ℕ) → Takes lent (shown lent (begin S edition))
 unfolding recordOf beginning numberOf endNumber
 begin-takes S lent even edition =
     record {
@@ -117,7 +117,7 @@ begin-takes S lent even edition =
     at (finalAtOnce e f) = omega arith
     at (started e) = omega arith
 
-module _ (image : List ℕ) (lent : Lent) (even : Even lent) where
+module _ (image : List ℕ) (lent : Lent) (even : EvenRooms lent) where
   -- a step that is not refused shows what the machine comes to by one call more
   call-shown : (terms : Terms) → checkRun image lent terms ≡ 0 → (n : Next) → Takes lent (shown lent n)
       → stepOf image terms (shown lent n) .left ≡ shown lent (advance (systemOf image) (roomsOf lent) (givenOf image terms) n)

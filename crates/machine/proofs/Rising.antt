@@ -18,7 +18,7 @@ use Rattle.lists.proofs.Pairs.{Pairwise, cons, pairs-first, pairs-later, pairs-
 use Rattle.masks.specs.Sets.{subset, within}
 use Rattle.masks.proofs.Laws.{subset-reflexive, subset-transitive}
 use Rattle.machine.specs.System.{System}
-use Rattle.machine.specs.Machine.{Blocker, leaves, staying, rises, risen, riseAlong, riseLevels}
+use Rattle.machine.specs.Machine.{Blocker, covers, leaves, staying, rises, risen, riseAlong, riseLevels}
 use Rattle.machine.proofs.Tables.{Covered, Blocked, byInitial, byBlocker, blocked-means, blocked-lower, blocked-stays-blocked}
 use Rattle.machine.proofs.Tables.{Stands, Grows, stays-standing, grows-same, grows-twice}
 
@@ -46,15 +46,15 @@ grown-twice : {S : System} {top : ℕ} {first second third : List Blocker} → G
     → Grown S top first third
 grown-twice f g = record { kept = g .kept; grows = grows-twice (f .grows) (g .grows) }
 
--- who is of Y's level or lower and a subset of Y leaves
-means-leaves : (Y blocker : Blocker) → blocker .level ≤ Y .level → T (subset (blocker .mask) (Y .mask)) → T (leaves Y blocker)
-unfolding leaves
-means-leaves Y blocker l t = and-both _ _ (le→leb _ _ l) t
-
 -- what a blocker that leaves covered, Y covers
 left-covered : (Y blocker : Blocker) {table : List Blocker} → Y ∈ table → T (leaves Y blocker) → Covered table (blocker .level) (blocker .mask)
 unfolding leaves
 left-covered Y blocker m t = record { blocker = Y; listed = m; high = leb→le _ _ (and-left _ _ t); inside = and-right _ _ t }
+
+-- who is of Y's level or lower and a subset of Y leaves
+means-leaves : (Y blocker : Blocker) → blocker .level ≤ Y .level → T (subset (blocker .mask) (Y .mask)) → T (leaves Y blocker)
+unfolding leaves
+means-leaves Y blocker l t = and-both _ _ (le→leb _ _ l) t
 
 -- a subset of Y that stays is of a higher level
 stayed-higher : (Y blocker : Blocker) → T (neg (leaves Y blocker)) → T (subset (blocker .mask) (Y .mask)) → Y .level < blocker .level
@@ -208,21 +208,6 @@ module _ {S : System} {top : ℕ} {old before : List Blocker} {Y : Blocker} {aft
   pub entered-grown : Grown S top old (putAmong before Y after)
   entered-grown = record { kept = record { stands = entered-stands; apart = entered-apart }; grows = entered-grows }
 
--- "a blocker of level exactly j all of whose backward sets are blocked at j rises to j+1"
-pub record Rises (S : System) (table : List Blocker) (j : ℕ) (blocker : Blocker) : Type 0 where
-  pub exactly : blocker .level ≡ j
-  pub backward : (s : ℕ) → s < S .symbols → Blocked S table j (S .backward s (blocker .mask))
-
--- the test as the proposition
-rises-means : (S : System) (table : List Blocker) (j : ℕ) (blocker : Blocker) → T (rises S table j blocker) → Rises S table j blocker
-unfolding rises
-rises-means S table j blocker t = record {
-  exactly = eqb→eq _ _ (and-left _ _ t);
-  backward = λ s l.
-      blocked-means S table j (S .backward s (blocker .mask))
-      (each-from-at _ (S .symbols) 0 (and-right _ _ t) s (omega arith) (omega arith));
-}
-
 module _ {S : System} {top : ℕ} (before : List Blocker) (blocker : Blocker) (after : List Blocker)
     (kept : Kept S top (before ++ blocker ∷ after)) where
   -- the blockers beside one are apart from it
@@ -233,18 +218,27 @@ module _ {S : System} {top : ℕ} (before : List Blocker) (blocker : Blocker) (a
       at (inl k) = pairs-across before (blocker ∷ after) (kept .apart) b blocker k (here refl)
       at (inr k) = apart-turned (pairs-first (pairs-right before (blocker ∷ after) (kept .apart)) b k)
 
-  module _ (j : ℕ) (room : suc j ≤ top) (rising : Rises S (before ++ blocker ∷ after) j blocker) where
+  -- so none of them covers it at its level
+  pub none-covered : Each (λ other. T (covers (blocker .level) (blocker .mask) other) → ⊥) (before ++ after)
+  unfolding covers
+  none-covered other m t =
+      let high = leb→le (blocker .level) (other .level) (and-left _ _ t) in
+      omega (arith, high, beside-apart other m .back (and-right _ _ t))
+
+  -- "a blocker of level exactly j all of whose backward sets are blocked at j rises to j+1"
+  module _ (j : ℕ) (room : suc j ≤ top) (rising : T (rises S (before ++ blocker ∷ after) j blocker)) where
     -- the risen blocker may take its place
     rise-enters : Enters S top (before ++ blocker ∷ after) before (risen blocker) after
-    unfolding risen
+    unfolding rises risen
     rise-enters = record {
       rest = λ b m. beside-in blocker before after m;
       others = λ b m. at b (in-beside blocker before after m);
       positive = omega arith;
-      low = omega (arith, rising .exactly);
+      low = omega (arith, exactly);
       clear = own .clear;
       inside = own .inside;
-      backward = λ s l i k. inl (blocked-lower (kept .stands) i (omega (arith, rising .exactly)) (rising .backward s l));
+      backward = λ s l i k. inl (blocked-lower (kept .stands) i (omega (arith, exactly))
+          (blocked-means S _ _ _ (each-from-at _ (S .symbols) 0 (and-right _ _ rising) s (omega arith) (omega arith))));
       apart = pairs-joined
           (pairs-left before (blocker ∷ after) (kept .apart))
           (pairs-later (pairs-right before (blocker ∷ after) (kept .apart)))
@@ -252,6 +246,9 @@ module _ {S : System} {top : ℕ} (before : List Blocker) (blocker : Blocker) (a
       higher = λ b m t. omega (arith, beside-apart b m .back t);
     }
       where
+        exactly : blocker .level ≡ j
+        exactly = eqb→eq _ _ (and-left _ _ rising)
+
         own : Stands S top (before ++ blocker ∷ after) blocker
         own = kept .stands blocker (in-right before (here refl))
 
@@ -302,5 +299,5 @@ pub levels-grown : {S : System} {top : ℕ} (count j : ℕ) → count + j ≤ to
     → Grown S top table (riseLevels S count j table)
 levels-grown {S} {top} count j room {table} kept =
     levels-keep S (λ t. Grown S top table t) count j
-    (λ i l before b after t g. grown-twice g (rise-grown before b after (g .kept) i (omega arith) (rises-means S (before ++ b ∷ after) i b t)))
+    (λ i l before b after t g. grown-twice g (rise-grown before b after (g .kept) i (omega arith) t))
     table (record { kept = kept; grows = grows-same table })

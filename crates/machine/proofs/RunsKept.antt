@@ -1,32 +1,37 @@
 -- The promises of runs, from what is proved of the machine: a run on an image is refused, or is the machine's run on the image's system. Assumes nothing.
-use Prim.Native.Nat.{ℕ, zero, suc, _-_, _^_, _≤_}
+use Prim.Native.Nat.{ℕ, zero, suc, _-_, _^_, _≤_, _<_}
 use mathlib.Core.Path.{_≡_, refl, sym, ap, subst, _∙_}
 use mathlib.Core.Bool.{Bool, true, false}
 use mathlib.Core.List.{List, [], _∷_, map}
-use mathlib.Core.Logic.{_⊎_, inl, inr}
+use mathlib.Core.Logic.{_↔_, _⊎_, inl, inr}
 use native.Mathlib.Omega.{arith}
 use lib.Dec.{T}
 use lib.ListN.{length}
 use Rattle.lists.specs.Tests.{_or_, neg}
 use Rattle.lists.specs.Lists.{here, there, Each}
+use Rattle.lists.proofs.Tests.{holds, fails, tests, facts}
 use Rattle.lists.proofs.Lists.{in-none, each-more}
 use Rattle.automata.specs.Image.{Valid, check, checkImage, statesOf}
 use Rattle.automata.specs.Automaton.{automatonOf}
 use Rattle.automata.specs.Acceptance.{Accepted}
 use Rattle.automata.proofs.Checks.{check-number}
 use Rattle.automata.proofs.Chained.{checks, passed, test-failed, later-none}
-use Rattle.machine.specs.Machine.{Pending, Configuration, Given, Rooms, blocks, step, passes, Next, ends, chain, begin, callsOf, machine}
-use Rattle.machine.specs.Lent.{Lent}
+use Rattle.machine.specs.Machine.{Pending, Configuration, Given, Rooms, beginning, blocks, step, passes, Next, ends, chain, begin, callsOf, machine}
+use Rattle.machine.specs.Lent.{Lent, EvenRooms}
 use Rattle.machine.specs.Runs.{Terms, Stage, systemOf, roomsOf, recordOf, shown, alone, oddRooms, oversize, unknownEdition, unknownWay}
 use Rattle.machine.specs.Runs.{checkTerms, checkRun, givenOf, runWith, runOf}
-use Rattle.machine.specs.Meaning.{EnteredInOrder, WorksIn}
-use Rattle.machine.specs.Promises.{Rules, RunEnded, inEdition, byWay, Decides, RunPromises}
+use Rattle.machine.specs.Meaning.{WorksIn}
+use Rattle.machine.specs.Promises.{FewPlaces, Rules, RunEnded, inEdition, byWay, Decides, RunPromises, WorkingPromises}
 use Rattle.machine.proofs.Language.{Sound}
 use Rattle.machine.proofs.Hitting.{growth-sound}
-use Rattle.machine.proofs.Chains.{Working, AllSound, Ended, each-same, chain-working, chain-within, chain-ends, begin-alike}
+use Rattle.machine.proofs.Rising.{Kept, none-covered}
+use Rattle.machine.proofs.Invariant.{Chain, first-symbol}
+use Rattle.machine.proofs.Chains.{Working, AllSound, Ended, each-same, chain-working, chain-within, chain-ends, chain-works-stays}
+use Rattle.machine.proofs.Chains.{begin-beginning, begin-alike}
 use Rattle.machine.proofs.Unpending.{grown-passes, block-leaves}
+use Rattle.machine.proofs.Blocks.{blocks-made, hints-taken}
 use Rattle.machine.proofs.Images.{image-lawful, accepted-by-runs}
-use Rattle.machine.proofs.Judging.{Even, ended-rules, ended-how, ended-decides}
+use Rattle.machine.proofs.Judging.{ended-rules, ended-how, ended-decides}
 
 -- what holds of what each step is given by its terms
 pub given-each : (image : List ℕ) (P : Given → Type 0) (steps : List Terms) → Each (λ terms. P (givenOf image terms)) steps → Each P (map (givenOf image) steps)
@@ -37,14 +42,31 @@ given-each image P (terms ∷ steps) all = each-more (all terms (here refl)) (gi
 pub given-sound : (image : List ℕ) → Valid image → (steps : List Terms) → AllSound (systemOf image) (map (givenOf image) steps)
 given-sound image valid steps = given-each image (λ g. Sound (systemOf image) (g .grow)) steps (λ terms m. growth-sound image valid (terms .way))
 
+-- what the tests of 30 and 31 say of the rooms
+test-even : (lent : Lent) → EvenRooms lent → oddRooms lent ≡ false
+unfolding oddRooms
+test-even lent even = search tests depth 8
+
+even-test : (lent : Lent) → oddRooms lent ≡ false → EvenRooms lent
+unfolding oddRooms
+even-test lent e = search facts depth 8
+
+test-few : (lent : Lent) (hints : List ℕ) → FewPlaces lent hints → oversize lent hints ≡ false
+unfolding oversize
+test-few lent hints few = search tests depth 8
+
+few-test : (lent : Lent) (hints : List ℕ) → oversize lent hints ≡ false → FewPlaces lent hints
+unfolding oversize
+few-test lent hints e = search facts depth 8
+
 -- what the checks of the rooms leave where none applies, and those of a run
 pub record RoomsChecked (lent : Lent) : Type 0 where
-  pub even : Even lent
+  pub even : EvenRooms lent
   pub few-places : length (lent .word .cases) ≤ 65536
 
 pub record Checked (image : List ℕ) (lent : Lent) : Type 0 where
   pub valid : Valid image
-  pub even : Even lent
+  pub even : EvenRooms lent
   pub few-places : length (lent .word .cases) ≤ 65536
 
 pub rooms-passed : (lent : Lent) (hints : List ℕ) (edition way : ℕ) → checkTerms lent hints edition way 0 ≡ 0 → RoomsChecked lent
@@ -141,6 +163,79 @@ module _ (image : List ℕ) (lent : Lent) (terms : Terms) where
   image-number : (Valid image → ⊥) → checkRun image lent terms ≡ checkImage image
   unfolding checkRun
   image-number = image-kept lent (terms .hints) (terms .edition) (terms .way) (checkImage image)
+
+-- 30 and 31 come of a valid image alone: a number of the image's is below them
+module _ (image : List ℕ) (lent : Lent) (terms : Terms) where
+  after-image : {number : ℕ} → 27 < number → checkRun image lent terms ≡ number
+      → Valid image × (checkTerms lent (terms .hints) (terms .edition) (terms .way) 0 ≡ number)
+  unfolding checkRun checkTerms
+  after-image {number} l = at (checkImage image) refl (check-number image)
+    where
+      at : (own : ℕ) → checkImage image ≡ own → (checkImage image ≡ 0) ⊎ ((20 ≤ checkImage image) × (checkImage image ≤ 27))
+          → checkTerms lent (terms .hints) (terms .edition) (terms .way) own ≡ number
+          → Valid image × (checkTerms lent (terms .hints) (terms .edition) (terms .way) 0 ≡ number)
+      at zero own h e = (own, e)
+      at (suc own) is (inl valid) e = absurd (omega arith)
+      at (suc own) is (inr h) e = absurd (omega arith)
+
+  of-valid : Valid image → checkRun image lent terms ≡ checkTerms lent (terms .hints) (terms .edition) (terms .way) 0
+  unfolding checkRun
+  of-valid valid = ap (checkTerms lent (terms .hints) (terms .edition) (terms .way)) valid
+
+  -- which of the four checks gives 30, and which 31
+  gives-30 : checkTerms lent (terms .hints) (terms .edition) (terms .way) 0 ≡ 30 → oddRooms lent ≡ true
+  unfolding checkTerms check
+  gives-30 = at (oddRooms lent) (oversize lent (terms .hints)) (unknownEdition (terms .edition)) (unknownWay (terms .way))
+    where
+      at : (odd over edition way : Bool) → check odd 30 (check over 31 (check edition 36 (check way 37 0))) ≡ 30 → odd ≡ true
+      at true over edition way e = refl
+      at false true edition way e = absurd (omega arith)
+      at false false true way e = absurd (omega arith)
+      at false false false true e = absurd (omega arith)
+      at false false false false e = absurd (omega arith)
+
+  gives-31 : checkTerms lent (terms .hints) (terms .edition) (terms .way) 0 ≡ 31 → (oddRooms lent ≡ false) × (oversize lent (terms .hints) ≡ true)
+  unfolding checkTerms check
+  gives-31 = at (oddRooms lent) (oversize lent (terms .hints)) (unknownEdition (terms .edition)) (unknownWay (terms .way))
+    where
+      at : (odd over edition way : Bool) → check odd 30 (check over 31 (check edition 36 (check way 37 0))) ≡ 31 → (odd ≡ false) × (over ≡ true)
+      at true over edition way e = absurd (omega arith)
+      at false true edition way e = (refl, refl)
+      at false false true way e = absurd (omega arith)
+      at false false false true e = absurd (omega arith)
+      at false false false false e = absurd (omega arith)
+
+  pub odd-rooms : (checkRun image lent terms ≡ 30) ↔ (Valid image × (EvenRooms lent → ⊥))
+  unfolding checkTerms check
+  odd-rooms = (
+    λ e. let h = after-image (omega arith) e in (h .0, λ even. clash (gives-30 (h .1)) (test-even lent even)),
+    λ h. of-valid (h .0) ∙ at (oddRooms lent) refl (h .1),
+  )
+    where
+      clash : {b : Bool} → b ≡ true → b ≡ false → ⊥
+      clash t f = fails f (holds t)
+
+      at : (b : Bool) → oddRooms lent ≡ b → (EvenRooms lent → ⊥) → checkTerms lent (terms .hints) (terms .edition) (terms .way) 0 ≡ 30
+      at true e f = rw e
+      at false e f = absurd (f (even-test lent e))
+
+  pub oversize-rooms : (checkRun image lent terms ≡ 31) ↔ (Valid image × EvenRooms lent × (FewPlaces lent (terms .hints) → ⊥))
+  unfolding checkTerms check
+  oversize-rooms = (
+    λ e.
+        let h = after-image (omega arith) e in
+        let given = gives-31 (h .1) in
+        (h .0, even-test lent (given .0), λ few. clash (given .1) (test-few lent (terms .hints) few)),
+    λ h. of-valid (h .0) ∙ at (oversize lent (terms .hints)) refl (test-even lent (h .1)) (h .2),
+  )
+    where
+      clash : {b : Bool} → b ≡ true → b ≡ false → ⊥
+      clash t f = fails f (holds t)
+
+      at : (b : Bool) → oversize lent (terms .hints) ≡ b → oddRooms lent ≡ false → (FewPlaces lent (terms .hints) → ⊥)
+          → checkTerms lent (terms .hints) (terms .edition) (terms .way) 0 ≡ 31
+      at true e odd f = rw (odd, e)
+      at false e odd f = absurd (f (few-test lent (terms .hints) e))
 
 module _ (image : List ℕ) (lent : Lent) (terms : Terms) where
   -- a run is refused, or it is the machine's
@@ -285,7 +380,19 @@ pub blocked-passes : (image : List ℕ) (rooms : Rooms) (edition : ℕ) (steps :
 blocked-passes image rooms edition steps terms X rest c d valid works waits made =
     grown-passes (systemOf image) (givenOf image terms) c (works-in image rooms edition steps valid works .holds) waits made
 
--- in every table that a run comes to, its blockers entered in order
-pub entered-in-order : (image : List ℕ) (rooms : Rooms) (edition : ℕ) (steps : List Terms) (c : Configuration) → Valid image
-    → WorksIn (systemOf image) rooms edition (map (givenOf image) steps) c → EnteredInOrder 0 (c .steps) (c .table)
-entered-in-order image rooms edition steps c valid works = works-in image rooms edition steps valid works .stamped
+-- what is promised of a configuration in which a run works
+pub working : (image : List ℕ) (rooms : Rooms) (edition : ℕ) (steps : List Terms) (c : Configuration) → Valid image
+    → WorksIn (systemOf image) rooms edition (map (givenOf image) steps) c → WorkingPromises image rooms edition (map (givenOf image) steps) c
+unfolding beginning
+working image rooms edition steps c valid works =
+    let w = works-in image rooms edition steps valid works in
+    let S = systemOf image in
+    let begun = begin-beginning S edition in
+    record {
+      blocks = omega (arith, blocks-made S rooms (begin S edition) _ works, ap (λ (b : Configuration). b .blocks) begun);
+      accepted = omega (arith, hints-taken S rooms (begin S edition) _ works, ap (λ (b : Configuration). b .accepted) begun);
+      first-symbol = λ lower p e. first-symbol lower p (subst (Chain S (c .table) (c .level)) e (w .holds .chain));
+      none-covered = λ before after blocker e. none-covered before blocker after (subst (Kept S (suc (c .level))) e (w .holds .kept));
+      entered-in-order = w .stamped;
+      in-larger-rooms = λ larger raised blockers word more same. chain-works-stays S rooms larger blockers word edition more same works;
+    }

@@ -1,7 +1,7 @@
 -- What holds of the counts of each configuration that a run reaches or ends in, and that its table and level fit the rooms. Assumes nothing.
 use Prim.Native.Nat.{_≤_}
 use mathlib.Core.Path.{_≡_, refl}
-use mathlib.Core.Bool.{Bool}
+use mathlib.Core.Bool.{Bool, false}
 use mathlib.Core.List.{List, []}
 use native.Mathlib.Omega.{arith}
 use lib.Dec.{ltb}
@@ -10,6 +10,7 @@ use Rattle.lists.proofs.Lists.{keep-length}
 use Rattle.machine.specs.System.{System}
 use Rattle.machine.specs.Machine.{Pending, Configuration, Given, Rooms, beginning}
 use Rattle.machine.specs.Machine.{Step, openStep, extendStep, blockStep, frame, closeWith, Next, goesOn, ends, comesTo}
+use Rattle.machine.specs.Machine.{Outcome, nonempty, empty, stepsLack, blockersLack, wordLacks, startsFinal}
 use Rattle.machine.proofs.Rising.{levels-shorter}
 use Rattle.machine.proofs.Passing.{chosen-is, chosen-hinted}
 use Rattle.machine.proofs.Steps.{under, closedTable, Taken, opening, finding, extending, blocking, closing, emptying, step-taken}
@@ -44,26 +45,38 @@ pub advanced-counted : {S : System} {rooms : Rooms} {given : Given} {c : Configu
 advanced-counted {given = given} {c = c} (tried l j) k = judged-counted (step-taken {given = given} c) j k
 advanced-counted (spent l) k = omega arith
 
--- nothing is pending where a run has ended: whatever step, and whatever call, ended it
+-- where a run has ended nothing is pending, and after an answer of no word no level is open: whatever step, and whatever call, ended it
+abbrev Shut : Outcome → Configuration → Type 0
+Shut empty c = c .isOpen ≡ false
+Shut (nonempty word) c = Unit {0}
+Shut stepsLack c = Unit {0}
+Shut blockersLack c = Unit {0}
+Shut wordLacks c = Unit {0}
+Shut startsFinal c = Unit {0}
+
+pub record Halted (outcome : Outcome) (c : Configuration) : Type 0 where
+  pub none-pending : c .pending ≡ []
+  pub shut : Shut outcome c
+
 abbrev pub Halts : Next → Type 0
 Halts (goesOn c) = Unit {0}
-Halts (ends outcome c) = c .pending ≡ []
+Halts (ends outcome c) = Halted outcome c
 
 judged-halts : {S : System} {given : Given} {rooms : Rooms} {c : Configuration} {pending : List Pending} {isOpen : Bool} {st : Step} {n : Next}
     → Taken S given c pending isOpen st → Judged rooms c st n → Halts n
 unfolding openStep extendStep blockStep closeWith
 judged-halts opening (roomToOpen l) = tt
-judged-halts opening (noRoomToOpen l) = refl
-judged-halts (finding s l t u) found = refl
+judged-halts opening (noRoomToOpen l) = record { none-pending = refl; shut = tt }
+judged-halts (finding s l t u) found = record { none-pending = refl; shut = tt }
 judged-halts (extending s l t u) extended = tt
 judged-halts (blocking f) (roomToBlock l) = tt
-judged-halts (blocking f) (noRoomToBlock l) = refl
+judged-halts (blocking f) (noRoomToBlock l) = record { none-pending = refl; shut = tt }
 judged-halts (closing e) closed = tt
-judged-halts (emptying j l h t) emptied = refl
+judged-halts (emptying j l h t) emptied = record { none-pending = refl; shut = refl }
 
 pub advanced-halts : {S : System} {rooms : Rooms} {given : Given} {c : Configuration} {n : Next} → Advanced S rooms given c n → Halts n
 advanced-halts {given = given} {c = c} (tried l j) = judged-halts (step-taken {given = given} c) j
-advanced-halts (spent l) = refl
+advanced-halts (spent l) = record { none-pending = refl; shut = tt }
 
 -- they are so at the beginning
 pub beginning-counted : (rooms : Rooms) → Counted rooms beginning

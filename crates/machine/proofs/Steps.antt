@@ -8,11 +8,11 @@ use mathlib.Core.Logic.{_⊎_, inl, inr}
 use mathlib.Core.Option.{Option, none, some}
 use native.Mathlib.Omega.{arith}
 use borrow.Author.Tests.{ltb-true, ltb-false, leb-true, leb-false, lt-ltb}
-use lib.Dec.{T, ltb, leb}
+use lib.Dec.{T, ltb}
 use lib.ListN.{length}
 use Rattle.lists.specs.Tests.{choose}
 use Rattle.lists.specs.Lists.{here, there, Each, firstFrom}
-use Rattle.lists.proofs.Tests.{holds, fails}
+use Rattle.lists.proofs.Tests.{holds, fails, choose-either}
 use Rattle.lists.proofs.Lists.{first-from-none, first-from-some}
 use Rattle.masks.specs.Sets.{subset}
 use Rattle.machine.specs.System.{System}
@@ -121,18 +121,12 @@ pub data Judged (rooms : Rooms) (c : Configuration) : Step → Next → Type 0 w
 
 -- each step is judged so
 judge-judged : {rooms : Rooms} {c : Configuration} (st : Step) → Judged rooms c st (judge rooms c st)
-unfolding judge choose
-judge-judged {rooms} {c} (opens d) = at (ltb (c .level) (rooms .word)) refl
-  where
-    at : (b : Bool) → ltb (c .level) (rooms .word) ≡ b → Judged rooms c (opens d) (choose b (goesOn d) (ends wordLacks (halted c)))
-    at true e = roomToOpen (ltb-true _ _ e)
-    at false e = noRoomToOpen (ltb-false _ _ e)
+unfolding judge
+judge-judged {rooms} {c} (opens d) =
+    choose-either (Judged rooms c (opens d)) _ (λ e. roomToOpen (ltb-true _ _ e)) (λ e. noRoomToOpen (ltb-false _ _ e))
 judge-judged (extends d) = extended
-judge-judged {rooms} {c} (blocks d) = at (leb (length (d .table)) (rooms .blockers)) refl
-  where
-    at : (b : Bool) → leb (length (d .table)) (rooms .blockers) ≡ b → Judged rooms c (blocks d) (choose b (goesOn d) (ends blockersLack (halted c)))
-    at true e = roomToBlock (leb-true _ _ e)
-    at false e = noRoomToBlock (leb-false _ _ e)
+judge-judged {rooms} {c} (blocks d) =
+    choose-either (Judged rooms c (blocks d)) _ (λ e. roomToBlock (leb-true _ _ e)) (λ e. noRoomToBlock (leb-false _ _ e))
 judge-judged (closes d) = closed
 judge-judged (answersNonempty word d) = found
 judge-judged (answersEmpty d) = emptied

@@ -3,11 +3,11 @@
 use Prim.Native.Nat.{ℕ, zero, suc, _^_, _≤_}
 use mathlib.Core.Path.{_≡_, refl, sym, ap, subst, _∙_}
 use mathlib.Core.Bool.{Bool, true, false}
-use mathlib.Core.List.{List, _∷_, map}
+use mathlib.Core.List.{List, [], _∷_, _++_, map}
 use mathlib.Core.Logic.{_⊎_, inl, inr}
 use native.Mathlib.Omega.{arith}
 use lib.ListN.{length, replicate, length-map}
-use Rattle.lists.specs.Lists.{keep}
+use Rattle.lists.specs.Lists.{Each, keep}
 use Rattle.lists.proofs.Tests.{choose-true}
 use Rattle.automata.specs.Image.{Valid, check, statesOf}
 use Rattle.automata.specs.Automaton.{automatonOf, HoldOne}
@@ -17,7 +17,7 @@ use Rattle.machine.specs.Lent.{Lent}
 use Rattle.machine.specs.Runs.{Terms, Stage, systemOf, givenOf, roomsOf, endNumber, numberOf, recordOf, shown, alone, checkRun, runOf}
 use Rattle.machine.specs.Records.{configurationOf, after, Called, answering, beginWith, beginOf}
 use Rattle.machine.specs.Records.{broken, checkRecord, checkStep, stepOf, stepsFrom, reachedBy, unrefused, givenBy}
-use Rattle.machine.specs.Promises.{Unbroken, Verdict, Agreed, BeginPromises, StepPromises, StepsPromises, RunBy, atOnce, bySteps}
+use Rattle.machine.specs.Promises.{Unbroken, Rules, RunEnded, Verdict, Decides, Agreed, OthersZero, BeginPromises, StepPromises, StepsPromises, RunBy, atOnce, bySteps}
 use Rattle.machine.proofs.Language.{Lawful}
 use Rattle.machine.proofs.Steps.{Advanced, tried, spent as used-up, advanced}
 use Rattle.machine.proofs.Verdicts.{none-shorter}
@@ -58,9 +58,15 @@ module _ (image : List ℕ) (lent : Lent) (terms : Terms) where
       ∙ ap (λ (tables : Lent). answering (record { tables = tables; run = recordOf (begin (systemOf image) (terms .edition)) }))
       (begin-shown (systemOf image) lent (checked image lent terms none .even) (terms .edition))
 
+  refused-zero : (checkRun image lent terms ≡ 0 → ⊥) → OthersZero (beginOf image lent terms .left .run)
+  refused-zero f =
+      subst (λ (called : Called). OthersZero (called .left .run)) (sym (begin-refuses f))
+      (record { steps = refl; level = refl; isOpen = refl; held = refl; pending = refl; blocks = refl; accepted = refl })
+
   pub begin-promises : BeginPromises image lent terms (beginOf image lent terms)
   begin-promises = record {
     refuses = begin-refuses;
+    refused-zero = refused-zero;
     refused-stays = λ f steps. refused-stays f steps ∙ sym (ap (λ (called : Called). called .left) (begin-refuses f));
     begins = begin-begins;
   }
@@ -177,18 +183,45 @@ module _ (image : List ℕ) (lent : Lent) (begun : Terms) (steps : List Terms) (
     ended-shows : reachedBy image lent begun steps ≡ shown lent (ends (ended .outcome) (ended .left))
     ended-shows = made-shows ∙ ap (shown lent) (ended .is)
 
+    ruled : Rules image lent (begun .edition) (reachedBy image lent begun steps)
+    ruled = let c = checked image lent begun none in ended-rules image lent (begun .edition) (c .valid) (c .even) sound (ended .is) ended-shows
+
+    how-ended : RunEnded image lent (begun .edition) (givenBy image lent steps) (reachedBy image lent begun steps)
+    how-ended = let c = checked image lent begun none in ended-how image lent (begun .edition) (c .valid) (c .even) sound (ended .is) ended-shows
+
+    -- with room and allowances enough it has a verdict
+    decided : 2 ^ statesOf image ≤ length (lent .room .masks) → 2 ^ statesOf image ≤ length (lent .word .cases)
+        → Each (λ terms. 4 ^ suc (statesOf image) ≤ terms .allowance) (unrefused image lent steps)
+        → Decides image lent (begun .edition) (givenBy image lent steps) (4 ^ suc (statesOf image)) (reachedBy image lent begun steps)
+    decided places levels enough =
+        let c = checked image lent begun none in
+        ended-decides image lent (begun .edition) (c .valid) (c .even) sound (ended .is) ended-shows places levels
+        (given-each image (λ given. 4 ^ suc (statesOf image) ≤ given .allowance) (unrefused image lent steps) enough)
+
+-- what has ended by some steps is left by those that follow
+ended-early : (image : List ℕ) (lent : Lent) (begun : Terms) (upto later : List Terms) → (reachedBy image lent begun upto .run .answer ≡ 6 → ⊥)
+    → reachedBy image lent begun (upto ++ later) ≡ reachedBy image lent begun upto
+unfolding stepsFrom
+ended-early image lent begun upto later f = joined (beginOf image lent begun .left) upto ∙ unworked-stays image (reachedBy image lent begun upto) f later
+  where
+    joined : (at : Stage) (first : List Terms) → stepsFrom image at (first ++ later) ≡ stepsFrom image (stepsFrom image at first) later
+    joined at [] = refl
+    joined at (terms ∷ first) = joined (stepOf image terms at .left) first
+
+module _ (image : List ℕ) (lent : Lent) (begun : Terms) (steps : List Terms) (none : checkRun image lent begun ≡ 0) where
   pub steps-promises : StepsPromises image lent begun steps (reachedBy image lent begun steps)
   steps-promises =
-      let c = checked image lent begun none in
       record {
-        shows = made-shows;
-        judged = λ f. ended-rules image lent (begun .edition) (c .valid) (c .even) sound (ended f .is) (ended-shows f);
-        ended = λ f. ended-how image lent (begun .edition) (c .valid) (c .even) sound (ended f .is) (ended-shows f);
+        shows = made-shows image lent begun steps none;
+        judged = ruled image lent begun steps none;
+        ended = how-ended image lent begun steps none;
         stays = λ f. unworked-stays image (reachedBy image lent begun steps) f;
-        decides = λ f few places levels enough. ended-decides image lent (begun .edition) (c .valid) (c .even) sound (ended f .is) (ended-shows f)
-            places levels (given-each image (λ given. 4 ^ suc (statesOf image) ≤ given .allowance) (unrefused image lent steps) enough);
-        works-no-more = λ many six. works-no-more six many;
-        working-shows = working-shows;
+        decides = λ upto later split f few places levels enough.
+            subst (Decides image lent (begun .edition) (givenBy image lent upto) (4 ^ suc (statesOf image)))
+            (sym (ap (reachedBy image lent begun) split ∙ ended-early image lent begun upto later f))
+            (decided image lent begun upto none f places levels enough);
+        works-no-more = λ many six. works-no-more image lent begun steps none six many;
+        working-shows = working-shows image lent begun steps none;
       }
 
 -- of steps that are all given the same either each is refused or none

@@ -2,7 +2,7 @@
 -- leaves nothing pending has blocked that case, so none becomes pending. Assumes nothing.
 use Prim.Native.Nat.{ℕ, suc, _-_, _<_}
 use mathlib.Core.Path.{_≡_, refl, sym, ap, subst, _∙_}
-use mathlib.Core.Bool.{Bool, true}
+use mathlib.Core.Bool.{Bool, true, false}
 use mathlib.Core.List.{List, [], _∷_}
 use mathlib.Core.Logic.{_⊎_, inl, inr}
 use native.Mathlib.Omega.{arith}
@@ -10,12 +10,13 @@ use lib.Dec.{T}
 use lib.ListN.{length}
 use Rattle.lists.specs.Tests.{choose}
 use Rattle.lists.specs.Lists.{_∈_, keep}
-use Rattle.lists.proofs.Tests.{is-true}
+use Rattle.lists.proofs.Tests.{is-true, fails}
 use Rattle.lists.proofs.Lists.{in-none, in-cases}
 use Rattle.machine.specs.System.{System}
 use Rattle.machine.specs.Machine.{Blocker, Pending, Configuration, Given, blocked, qualifies, passes, chosen}
 use Rattle.machine.specs.Machine.{staying, finalPending, pendingAfter}
-use Rattle.machine.specs.Machine.{Step, opens, extends, blocks, closes, answersNonempty, answersEmpty, extendStep, blockStep, step}
+use Rattle.machine.specs.Machine.{Step, blocks, extendStep, blockStep, step}
+use Rattle.machine.specs.Meaning.{isBlock}
 use Rattle.machine.proofs.Language.{Sound}
 use Rattle.machine.proofs.Tables.{means-blocked, byBlocker}
 use Rattle.machine.proofs.Rising.{putAmong}
@@ -30,25 +31,18 @@ unfolding finalPending choose
 blocked-waits-not initial F table N e = rw e
 
 -- no other step is a block
-abbrev isBlock : Step → ℕ
-isBlock (opens d) = 0
-isBlock (extends d) = 0
-isBlock (blocks d) = 1
-isBlock (closes d) = 0
-isBlock (answersNonempty word d) = 0
-isBlock (answersEmpty d) = 0
-
-blocks-only : {st : Step} {d : Configuration} → st ≡ blocks d → isBlock st ≡ 0 → ⊥
-blocks-only e z = let q = ap isBlock e in omega (arith, q, z)
+blocks-only : {st : Step} {d : Configuration} → st ≡ blocks d → isBlock st ≡ false → ⊥
+unfolding isBlock
+blocks-only e f = fails f (subst T (sym (ap isBlock e)) tt)
 
 -- a block is made for the lowest pending case where no symbol qualifies
-record MadeFor (S : System) (given : Given) (c : Configuration) (X : Pending) (rest : List Pending) (d : Configuration) : Type 0 where
-  unqualified : (s : ℕ) → s < S .symbols → T (qualifies S (c .table) (under c rest) (X .case) s) → ⊥
-  is-block : blockStep (S .initial) (S .finals) c rest (under c rest) (chosen S given c (under c rest) (X .case)) ≡ blocks d
+pub record MadeFor (S : System) (given : Given) (c : Configuration) (X : Pending) (rest : List Pending) (d : Configuration) : Type 0 where
+  pub unqualified : (s : ℕ) → s < S .symbols → T (qualifies S (c .table) (under c rest) (X .case) s) → ⊥
+  pub is-block : blockStep (S .initial) (S .finals) c rest (under c rest) (chosen S given c (under c rest) (X .case)) ≡ blocks d
 
-made-for : {S : System} {given : Given} {c d : Configuration} {X : Pending} {rest : List Pending} → c .pending ≡ X ∷ rest → step S given c ≡ blocks d
+pub made-for : {S : System} {given : Given} {c d : Configuration} {X : Pending} {rest : List Pending} → c .pending ≡ X ∷ rest → step S given c ≡ blocks d
     → MadeFor S given c X rest d
-unfolding extendStep
+unfolding extendStep isBlock
 made-for {S} {given} {c} {d} {X} {rest} waits =
     at (subst (λ (pending : List Pending). Taken S given c pending (c .isOpen) (step S given c)) waits (step-taken {given = given} c))
   where
@@ -67,7 +61,7 @@ grown-passes S given c inv waits made =
 module _ (S : System) {F : ℕ} (one : S .finals ≡ F ∷ []) where
   -- a pending case above which none waits is the final case
   only-final : {p : Pending} → Comes S p [] → p .case ≡ F
-  only-final {p} (final m) = at (in-cases (subst (λ (l : List ℕ). p .case ∈ l) one m))
+  only-final {p} (final m zeroed) = at (in-cases (subst (λ (l : List ℕ). p .case ∈ l) one m))
     where
       at : (p .case ≡ F) ⊎ p .case ∈ [] → p .case ≡ F
       at (inl e) = e

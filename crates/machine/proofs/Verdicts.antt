@@ -6,17 +6,18 @@ use mathlib.Core.Bool.{Bool, true, false}
 use mathlib.Core.List.{List, [], _∷_}
 use mathlib.Core.Logic.{_≢_}
 use native.Mathlib.Omega.{arith}
+use borrow.Author.Tests.{eq-eqb, ne-eqb}
 use lib.Dec.{T, eqb, eqb-refl, lt→ltb, ltb→lt, ltb}
 use lib.ListN.{length}
 use Rattle.lists.specs.Lists.{_∈_, here, there, any, keep}
-use Rattle.lists.proofs.Tests.{holds, fails, neg-fails}
+use Rattle.lists.proofs.Tests.{holds, fails, neg-fails, choose-true, choose-false}
 use Rattle.lists.proofs.Lists.{in-none, each-more, any-some, some-any, keep-in, in-keep}
 use Rattle.masks.specs.Sets.{subset}
 use Rattle.masks.proofs.Laws.{subset-reflexive, subset-transitive}
 use Rattle.machine.specs.System.{System}
 use Rattle.machine.specs.Machine.{Blocker, Pending, Configuration, Given, Rooms, beginning, staying, wordOf, noneAt, frame}
 use Rattle.machine.specs.Machine.{Step, opens, extends, blocks, closes, answersNonempty, answersEmpty}
-use Rattle.machine.specs.Machine.{openStep, extendStep, blockStep, closeWith, qualifies, step, Next, goesOn, ends}
+use Rattle.machine.specs.Machine.{openStep, extendStep, blockStep, closeWith, qualifies, step, Next, goesOn, ends, startAnswer}
 use Rattle.machine.specs.Machine.{Outcome, nonempty, empty, stepsLack, blockersLack, wordLacks, startsFinal}
 use Rattle.machine.specs.Meaning.{Inside, Closed}
 use Rattle.machine.proofs.Language.{takenBack, Word, accepts, Lawful, Sound, NoneAccepted, NoneShorter, Shortest}
@@ -140,7 +141,7 @@ RightAnswer S rooms edition empty left = Closed S (left .table)
 RightAnswer S rooms edition stepsLack left = NoneShorter S (left .level)
 RightAnswer S rooms edition blockersLack left = NoneShorter S (left .level)
 RightAnswer S rooms edition wordLacks left = NoneShorter S (suc (rooms .word))
-RightAnswer S rooms edition startsFinal left = (edition ≡ 2) × T (accepts S []) × (left ≡ beginning)
+RightAnswer S rooms edition startsFinal left = (edition ≡ 2) × T (accepts S [])
 
 -- "if I is a subset of F" was answered no
 pub clear-finals : (S : System) → any (subset (S .initial)) (S .finals) ≡ false → FinalsClear S
@@ -161,6 +162,15 @@ unqualified-passes {p = p} inv f = record {
 pub start-accepts : (S : System) → accepts S [] ≡ any (subset (S .initial)) (S .finals)
 unfolding accepts takenBack
 start-accepts S = refl
+
+-- what is answered of a start that is final: 5 in edition 2, else 1 with the empty word
+pub starts-final : {edition : ℕ} → edition ≡ 2 → startAnswer edition ≡ startsFinal
+unfolding startAnswer
+starts-final e = choose-true startsFinal (nonempty []) (eq-eqb _ 2 e)
+
+pub starts-nonempty : {edition : ℕ} → (edition ≡ 2 → ⊥) → startAnswer edition ≡ nonempty []
+unfolding startAnswer
+starts-nonempty f = choose-false startsFinal (nonempty []) (ne-eqb _ 2 f)
 
 -- where no final case contains I the empty word is not accepted
 pub clear-start : (S : System) → FinalsClear S → T (accepts S []) → ⊥

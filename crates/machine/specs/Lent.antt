@@ -35,6 +35,11 @@ pub record EvenRoom (room : BlockerRoom) : Type 0 where
   pub levels : length (room .masks) ≡ length (room .levels)
   pub entered : length (room .masks) ≡ length (room .entered)
 
+-- and so are those of either room
+pub record EvenRooms (lent : Lent) : Type 0 where
+  pub blockers : EvenRoom (lent .room)
+  pub symbols : length (lent .word .cases) ≡ length (lent .word .symbols)
+
 -- the blocker at a place
 abbrev pub blockerAt : BlockerRoom → ℕ → Blocker
 blockerAt room i = record { mask = getD (room .masks) i 0; level = getD (room .levels) i 0; entered = getD (room .entered) i 0 }

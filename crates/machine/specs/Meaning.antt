@@ -1,14 +1,19 @@
--- What the promises say of runs: a closed frame, when its blockers entered, where a run ended and what it lacked there, and what it was given.
+-- What the promises say of runs: a closed frame, when its blockers entered, where a run ended and what it lacked there, its blocks and those that took a
+-- hint, and what it was given.
 -- Assumes nothing: these are definitions.
-use Prim.Native.Nat.{ℕ, _≤_, _<_}
+use Prim.Native.Nat.{ℕ, suc, _+_, _-_, _≤_, _<_}
 use mathlib.Core.Path.{_≡_}
+use mathlib.Core.Bool.{Bool, true, false}
 use mathlib.Core.List.{List, [], _∷_, _++_}
-use lib.Dec.{T}
-use lib.ListN.{length}
+use lib.Dec.{T, ltb}
+use lib.ListN.{length, getD}
+use Rattle.lists.specs.Tests.{_and_}
 use Rattle.lists.specs.Lists.{_∈_, Each}
 use Rattle.masks.specs.Sets.{subset}
+use Rattle.automata.specs.WordTest.{oneIf}
 use Rattle.machine.specs.System.{System}
-use Rattle.machine.specs.Machine.{Blocker, Configuration, Given, Rooms, Step, opens, blocks, step, Next, goesOn, ends, halted, advance, chain, begin}
+use Rattle.machine.specs.Machine.{Blocker, Pending, Configuration, Given, Rooms, passes, step, Next, goesOn, ends, halted, advance, chain, begin}
+use Rattle.machine.specs.Machine.{Step, opens, extends, blocks, closes, answersNonempty, answersEmpty}
 use Rattle.machine.specs.Machine.{Outcome, nonempty, empty, stepsLack, blockersLack, wordLacks, startsFinal}
 
 -- the case is a subset of one of the blockers
@@ -66,6 +71,35 @@ pub record EndedBy (S : System) (rooms : Rooms) (edition : ℕ) (calls : List Gi
   pub call : EndingCall S rooms (begin S edition) calls outcome left
   pub counted : call .at .steps ≡ length (call .before)
   pub lacks : Lacks S rooms (call .last) (call .at) outcome left
+
+-- the step is a block
+unfoldable pub isBlock : Step → Bool
+isBlock (blocks d) = true
+isBlock (opens d) = false
+isBlock (extends d) = false
+isBlock (closes d) = false
+isBlock (answersNonempty word d) = false
+isBlock (answersEmpty d) = false
+
+-- "hint t exists and passes" for the lowest pending case, where t blocks came before
+unfoldable pub hintPasses : System → Given → Configuration → List Pending → Bool
+hintPasses S given c [] = false
+hintPasses S given c (X ∷ rest) =
+    ltb (c .blocks) (length (given .hints)) and passes S (c .table) (c .level - suc (length rest)) (X .case) (getD (given .hints) (c .blocks) 0)
+
+-- the step that a call makes is a block; and it is one that takes a hint
+unfoldable pub makesBlock : System → Given → Configuration → Bool
+makesBlock S given c = isBlock (step S given c)
+
+unfoldable pub takesHint : System → Given → Configuration → Bool
+takesHint S given c = makesBlock S given c and hintPasses S given c (c .pending)
+
+-- how many calls of a chain made such a step
+unfoldable pub stepsMade : (System → Given → Configuration → Bool) → System → Rooms → Next → List Given → ℕ
+stepsMade such S rooms (goesOn c) [] = 0
+stepsMade such S rooms (ends outcome c) [] = 0
+stepsMade such S rooms (goesOn c) (given ∷ later) = oneIf (such S given c) + stepsMade such S rooms (advance S rooms given (goesOn c)) later
+stepsMade such S rooms (ends outcome c) (given ∷ later) = 0
 
 -- the same with another allowance
 abbrev pub raise : ℕ → Given → Given

@@ -2,27 +2,28 @@
 -- `Rattle.machine.proofs.Kept.kept`. Assumes nothing: these are statements.
 use Prim.Native.Nat.{ℕ, suc, _+_, _-_, _*_, _^_, _≤_, _<_, min}
 use mathlib.Core.Path.{_≡_}
+use mathlib.Core.Bool.{false}
 use mathlib.Core.List.{List, [], _∷_, _++_, map}
 use mathlib.Core.Logic.{_↔_, _⊎_}
 use lib.Dec.{T, eqb}
 use lib.ListN.{length, getD, take, replicate}
 use Rattle.lists.specs.Lists.{_∈_, Each, any, keep}
-use Rattle.masks.specs.Sets.{within, without}
+use Rattle.masks.specs.Sets.{Member, member, subset, union, without, single, full, within}
 use Rattle.automata.specs.Image.{Row, Valid, checkImage, statesOf, symbolsOf, rowCountOf, initialOf, finalOf, rowsOf}
-use Rattle.automata.specs.Automaton.{automatonOf, backward, bringAllIn, rowsWalked, HoldOne}
-use Rattle.automata.specs.Acceptance.{Accepted}
+use Rattle.automata.specs.Automaton.{Automaton, automatonOf, backward, HasRow, takenBack, bringAllIn, rowsWalked, HoldOne}
+use Rattle.automata.specs.Acceptance.{Steps, Accepted}
 use Rattle.automata.specs.WordTest.{wordTest}
 use Rattle.automata.specs.Picks.{eventsOf, FormRun, AllPick}
 use Rattle.automata.specs.Answers.{readImage, imageNumber, headAfter}
 use Rattle.writing.specs.Decimal.{digits, IsDecimal}
 use Rattle.writing.specs.Rooms.{Answer, noBytes, allBytes}
 use Rattle.machine.specs.Machine.{Blocker, Pending, Configuration, Given, Rooms, Outcome, goesOn, ends}
-use Rattle.machine.specs.Machine.{begin, advance, chain, callsOf, blocks, step, blocked, passes}
-use Rattle.machine.specs.Meaning.{Closed, EnteredInOrder, WorksIn, EndedBy, Raised}
+use Rattle.machine.specs.Machine.{begin, advance, chain, callsOf, blocks, step, covers, blocked, passes}
+use Rattle.machine.specs.Meaning.{Closed, EnteredInOrder, WorksIn, EndedBy, makesBlock, takesHint, stepsMade, Raised}
 use Rattle.machine.specs.Why.{Reason, byBlocker, byStart, nothing, why, FirstCovering, LowestAbsent}
-use Rattle.machine.specs.Hitting.{withCases, meets, best, growthOf}
+use Rattle.machine.specs.Hitting.{cover, forbidden, withCases, toMeet, meets, best, picked, growthOf}
 use Rattle.machine.specs.Print.{printOf, printRun}
-use Rattle.machine.specs.Lent.{BlockerRoom, Lent, zeroed, blockersIn, column, eachTable}
+use Rattle.machine.specs.Lent.{BlockerRoom, Lent, EvenRooms, zeroed, blockersIn, column, eachTable}
 use Rattle.machine.specs.Runs.{Terms, RunRecord, Stage, systemOf, roomsOf, givenOf, shown, alone, checkRun, runOf}
 use Rattle.machine.specs.Records.{configurationOf, after, Called, answering, beginOf, checkStep, stepOf, stepsFrom, reachedBy, unrefused, givenBy}
 
@@ -47,6 +48,12 @@ pub record WordFound (image : List ℕ) (lent : Lent) (edition : ℕ) (r : Stage
   pub shortest : (other : List ℕ) → Accepted (automatonOf image) other → length word ≤ length other
   pub some-symbol : edition ≡ 2 → 1 ≤ length word
 
+-- no room and no hint table has over 65,536 places
+pub record FewPlaces (lent : Lent) (hints : List ℕ) : Type 0 where
+  pub blockers : length (lent .room .masks) ≤ 65536
+  pub word : length (lent .word .cases) ≤ 65536
+  pub hints-few : length hints ≤ 65536
+
 -- the rules by which a run that was not refused is judged, under its edition
 pub record Rules (image : List ℕ) (lent : Lent) (edition : ℕ) (r : Stage) : Type 0 where
   -- ""Nonempty" only with a word accepted by the definition of Chandra, Kozen and Stockmeyer"; "their words are shortest"
@@ -57,6 +64,8 @@ pub record Rules (image : List ℕ) (lent : Lent) (edition : ℕ) (r : Stage) : 
   -- 02, 6: "a start already final .. 2 answers such a start by 5": exactly if the empty word is accepted; ".. no steps, the rooms all 0"
   pub starts-final : (r .run .answer ≡ 5) ↔ ((edition ≡ 2) × Accepted (automatonOf image) [])
   pub starts-final-leaves : r .run .answer ≡ 5 → r ≡ alone (zeroed lent) 5
+  -- 01: "if I is a subset of F, answer 1 with the empty word and 0 steps"; the rooms are all 0 then
+  pub starts-nonempty : edition ≡ 1 → Accepted (automatonOf image) [] → r ≡ alone (zeroed lent) 1
   -- 02, 9: "a run that stops at level N, for want of steps or blocker room, has shown that no word shorter than N is accepted"
   pub stop-shows : (r .run .answer ≡ 2) ⊎ (r .run .answer ≡ 3) → (word : List ℕ) → Accepted (automatonOf image) word → r .run .level ≤ length word
   -- "one that stops at end of tape, none up to the word room's length, that length included"
@@ -70,6 +79,8 @@ pub record Rules (image : List ℕ) (lent : Lent) (edition : ℕ) (r : Stage) : 
       ≡ eachTable (λ field before. column field (heldBy r) ++ replicate (length before - r .run .held) 0) (lent .room)
   -- 02, 8: "until the run ends, with nothing pending then"
   pub none-pending : r .run .pending ≡ 0
+  -- "N is then no longer open. If some level .. answer 0"
+  pub empty-shut : r .run .answer ≡ 0 → r .run .isOpen ≡ false
   -- 02, 10: the steps with which its blockers entered rise in table order, from 1 on and up to the steps made
   pub entered-in-order : EnteredInOrder 0 (r .run .steps) (heldBy r)
 
@@ -122,10 +133,21 @@ pub record RunPromises (image : List ℕ) (lent : Lent) (terms : Terms) (r : Sta
       → 2 ^ statesOf image ≤ length (lent .word .cases) → 4 ^ suc (statesOf image) ≤ terms .allowance
       → Decides image lent (terms .edition) (callsOf (givenOf image terms)) (4 ^ suc (statesOf image)) r
 
+-- all fields of a record but its answer are 0
+pub record OthersZero (run : RunRecord) : Type 0 where
+  pub steps : run .steps ≡ 0
+  pub level : run .level ≡ 0
+  pub isOpen : run .isOpen ≡ false
+  pub held : run .held ≡ 0
+  pub pending : run .pending ≡ 0
+  pub blocks : run .blocks ≡ 0
+  pub accepted : run .accepted ≡ 0
+
 -- 02, 8: the promises of a begin
 pub record BeginPromises (image : List ℕ) (lent : Lent) (terms : Terms) (called : Called) : Type 0 where
   -- "a refused begin gives 0 in the other fields", and no step changes such a record: "a record with an answer above 6 .. gives 33"
   pub refuses : (checkRun image lent terms ≡ 0 → ⊥) → called ≡ answering (alone lent (checkRun image lent terms))
+  pub refused-zero : (checkRun image lent terms ≡ 0 → ⊥) → OthersZero (called .left .run)
   pub refused-stays : (checkRun image lent terms ≡ 0 → ⊥) → (steps : List Terms) → stepsFrom image (called .left) steps ≡ called .left
   -- "begin checks the input and makes the start"
   pub begins : checkRun image lent terms ≡ 0 → called ≡ answering (shown lent (begin (systemOf image) (terms .edition)))
@@ -186,10 +208,11 @@ pub record StepsPromises (image : List ℕ) (lent : Lent) (begun : Terms) (steps
   pub judged : (at .run .answer ≡ 6 → ⊥) → Rules image lent (begun .edition) at
   pub ended : (at .run .answer ≡ 6 → ⊥) → RunEnded image lent (begun .edition) (givenBy image lent steps) at
   pub stays : (at .run .answer ≡ 6 → ⊥) → (later : List Terms) → stepsFrom image at later ≡ at
-  -- "for the bound, its allowance is the least that a step up to then was given"
-  pub decides : (at .run .answer ≡ 6 → ⊥) → statesOf image ≤ 16 → 2 ^ statesOf image ≤ length (lent .room .masks)
-      → 2 ^ statesOf image ≤ length (lent .word .cases) → Each (λ terms. 4 ^ suc (statesOf image) ≤ terms .allowance) (unrefused image lent steps)
-      → Decides image lent (begun .edition) (givenBy image lent steps) (4 ^ suc (statesOf image)) at
+  -- "for the bound, its allowance is the least that a step up to then was given": up to a step after which it worked no more
+  pub decides : (upto later : List Terms) → steps ≡ upto ++ later → (reachedBy image lent begun upto .run .answer ≡ 6 → ⊥) → statesOf image ≤ 16
+      → 2 ^ statesOf image ≤ length (lent .room .masks) → 2 ^ statesOf image ≤ length (lent .word .cases)
+      → Each (λ terms. 4 ^ suc (statesOf image) ≤ terms .allowance) (unrefused image lent upto)
+      → Decides image lent (begun .edition) (givenBy image lent upto) (4 ^ suc (statesOf image)) at
   -- it works no more after 4^(n+1) steps that are not refused, whatever its rooms and allowances
   pub works-no-more : 4 ^ suc (statesOf image) ≤ length (unrefused image lent steps) → at .run .answer ≡ 6 → ⊥
   -- (what a caller wants to know) while it works it has shown as much as if it were stopped there
@@ -230,6 +253,78 @@ pub record MeetsMost (n : ℕ) (sets : List ℕ) (q : ℕ) : Type 0 where
   pub most : (p : ℕ) → p < n → meets sets p ≤ meets sets q
   pub lowest : (p : ℕ) → p < q → meets sets p < meets sets q
 
+-- a state of the set is one of those picked
+pub record Met (picks set : ℕ) : Type 0 where
+  pub state : ℕ
+  pub inside : Member state set
+  pub chosen : Member state picks
+
+-- the case is that of a row, by some symbol, whose state is outside the symbol's b
+pub record RowOutside (image : List ℕ) (b : ℕ → ℕ) (case : ℕ) : Type 0 where
+  pub symbol : ℕ
+  pub known : symbol < symbolsOf image
+  pub row : Row
+  pub listed : row ∈ rowsOf image symbol
+  pub outside : Member (row .state) (b symbol) → ⊥
+  pub its-case : case ≡ row .case
+
+-- b is the mask of the first blocker that covers P; and all of the n states but the lowest initial one that P lacks
+pub record FirstMask (table : List Blocker) (i P b : ℕ) : Type 0 where
+  pub place : ℕ
+  pub level : ℕ
+  pub first : FirstCovering table i P place level
+  pub its-mask : b ≡ first .blocker .mask
+
+pub record AllButLowest (n initial P b : ℕ) : Type 0 where
+  pub state : ℕ
+  pub lowest : LowestAbsent initial P state
+  pub all-but : (q : ℕ) → Member q b ↔ ((q < n) × (q ≡ state → ⊥))
+
+-- 02, 7: "let b be X if the backward set lies in X, else the first covering blocker (at level 0, all states but the lowest absent initial one)": for the
+-- backward set P, which is blocked one level below where it does not lie in X
+pub record CoverPromises (n initial : ℕ) (table : List Blocker) (below X P b : ℕ) : Type 0 where
+  pub itself : T (subset P X) → b ≡ X
+  pub by-blocker : (T (subset P X) → ⊥) → 1 ≤ below → T (blocked initial table below P) → FirstMask table below P b
+  pub by-start : (T (subset P X) → ⊥) → below ≡ 0 → T (blocked initial table below P) → AllButLowest n initial P b
+
+-- 02, 7: the promises of a growth through a hitting set, with b for each symbol and the states that are picked
+pub record HittingPromises (image : List ℕ) (table : List Blocker) (below X : ℕ) (b : ℕ → ℕ) (picks grown : ℕ) : Type 0 where
+  pub covers : (s : ℕ) → CoverPromises (statesOf image) (initialOf image) table below X (backward (rowsOf image s) X) (b s)
+  -- "Forbidden are I and the case of each row of that symbol whose state is outside b."
+  pub forbids : (case : ℕ) → case ∈ forbidden (systemOf image) (rowsOf image) table below X ↔ ((case ≡ initialOf image) ⊎ RowOutside image b case)
+  -- "until all are met"
+  pub all-met : Each (Met picks) (toMeet (systemOf image) (rowsOf image) table below X)
+  -- "the blocker is the states not picked"
+  pub not-picked : (q : ℕ) → Member q grown ↔ ((q < statesOf image) × (Member q picks → ⊥))
+
+-- 01: the promises of a block of X, above which `rest` is pending, where c becomes d; below is i−1
+pub record BlockPromises (image : List ℕ) (given : Given) (below : ℕ) (X : Pending) (c d : Configuration) : Type 0 where
+  -- "Y enters at the end with level i", with this step
+  pub mask : ℕ
+  pub others : List Blocker
+  pub enters : d .table ≡ others ++ record { mask = mask; level = suc below; entered = suc (c .steps) } ∷ []
+  -- "If t blocks came before and hint t exists and passes, it is taken", and counted; "Otherwise" Y is grown, and none is
+  pub hinted : c .blocks < length (given .hints) → T (passes (systemOf image) (c .table) below (X .case) (getD (given .hints) (c .blocks) 0))
+      → (mask ≡ getD (given .hints) (c .blocks) 0) × (d .accepted ≡ suc (c .accepted))
+  pub grown : (c .blocks < length (given .hints) → T (passes (systemOf image) (c .table) below (X .case) (getD (given .hints) (c .blocks) 0)) → ⊥)
+      → (mask ≡ given .grow (c .table) below (X .case)) × (d .accepted ≡ c .accepted)
+
+-- the promises of a configuration in which a run works that was begun and called so
+pub record WorkingPromises (image : List ℕ) (rooms : Rooms) (edition : ℕ) (calls : List Given) (c : Configuration) : Type 0 where
+  -- "blocks made, hints accepted": the block steps made so far, and those of them that took a hint
+  pub blocks : c .blocks ≡ stepsMade makesBlock (systemOf image) rooms (begin (systemOf image) edition) calls
+  pub accepted : c .accepted ≡ stepsMade takesHint (systemOf image) rooms (begin (systemOf image) edition) calls
+  -- "0 for the first one's symbol": it stands behind those of lower levels
+  pub first-symbol : (lower : List Pending) (p : Pending) → c .pending ≡ lower ++ p ∷ [] → p .symbol ≡ 0
+  -- who leaves on entering and on rising: no blocker covers another at its level
+  pub none-covered : (before after : List Blocker) (blocker : Blocker) → c .table ≡ before ++ blocker ∷ after
+      → Each (λ other. T (covers (blocker .level) (blocker .mask) other) → ⊥) (before ++ after)
+  -- 02, 10: in table order they entered
+  pub entered-in-order : EnteredInOrder 0 (c .steps) (c .table)
+  -- the same calls, each with no smaller allowance, come to the same in larger rooms: so a run that stopped goes on there
+  pub in-larger-rooms : (larger : Rooms) (raised : List Given) → rooms .blockers ≤ larger .blockers → rooms .word ≤ larger .word → Raised calls raised
+      → length raised ≡ length calls → WorksIn (systemOf image) larger edition raised c
+
 -- 02, 1: the promises of the print of a word's run into a room
 pub record PrintPromises (image word room : List ℕ) (answer : Answer) : Type 0 where
   -- "Checks: the word test's come first; a word not accepted gives 0"
@@ -252,7 +347,26 @@ pub record Agreed (r s : Stage) : Type 0 where
   pub verdict : r .run .answer ≡ s .run .answer
   pub words : r .run .answer ≡ 1 → r .run .level ≡ s .run .level
 
+-- 01: "A case is a set of states, written as a mask: bit q stands for state q": what the tests and sets mean that all definitions are made of, for every number
+pub record MasksMean : Type 0 where
+  pub member-means : (q set : ℕ) → T (member q set) ↔ Member q set
+  pub subset-means : (a b : ℕ) → T (subset a b) ↔ ((q : ℕ) → Member q a → Member q b)
+  pub within-means : (n set : ℕ) → T (within n set) ↔ ((q : ℕ) → Member q set → q < n)
+  pub union-means : (a b q : ℕ) → Member q (union a b) ↔ (Member q a ⊎ Member q b)
+  pub without-means : (a b q : ℕ) → Member q (without a b) ↔ (Member q a × (Member q b → ⊥))
+  pub single-means : (q p : ℕ) → Member p (single q) ↔ (p ≡ q)
+  pub full-means : (n q : ℕ) → Member q (full n) ↔ (q < n)
+
 pub record Promises : Type 0 where
+  pub masks : MasksMean
+  -- "The backward set of a case X by symbol s is the set of states with a row by s whose case is a subset of X."
+  pub backward-means : (rows : List Row) (X q : ℕ) → Member q (backward rows X) ↔ HasRow rows q X
+  -- "The empty case steps to itself by every symbol."
+  pub empty-steps : (A : Automaton) (s : ℕ) → s < A .symbols → Steps A s 0 0
+  -- "So a word is accepted when F, taken back by its symbols from last to first, gives a set that contains I. That this equals the definition by runs is to
+  -- be proved."
+  pub accepted-means : (image word : List ℕ) → Valid image → Accepted (automatonOf image) word
+      ↔ (Each (λ s. s < symbolsOf image) word × T (subset (initialOf image) (takenBack (automatonOf image) word (finalOf image))))
   -- "Every malformed input is refused under its number": the image reader, which then leaves what it was lent for the head
   pub reader-refuses : (image : List ℕ) → (Valid image → ⊥) → imageNumber (readImage image) ≡ checkImage image
   pub reader-leaves : (image before : List ℕ) → (Valid image → ⊥) → headAfter before (readImage image) ≡ before
@@ -269,6 +383,10 @@ pub record Promises : Type 0 where
       → (wordTest image word ≡ 0) ↔ (Valid image × Each (λ s. s < symbolsOf image) word × (Accepted (automatonOf image) word → ⊥))
   -- images that hold one automaton give one answer
   pub word-test-same : (image other word : List ℕ) → Valid image → Valid other → HoldOne image other → wordTest image word ≡ wordTest other word
+  -- 30: the tables of one room differ in length; 31: they do not, and a room or the hint table has over 65,536 places; of a valid image, and neither otherwise
+  pub odd-rooms : (image : List ℕ) (lent : Lent) (terms : Terms) → (checkRun image lent terms ≡ 30) ↔ (Valid image × (EvenRooms lent → ⊥))
+  pub oversize : (image : List ℕ) (lent : Lent) (terms : Terms)
+      → (checkRun image lent terms ≡ 31) ↔ (Valid image × EvenRooms lent × (FewPlaces lent (terms .hints) → ⊥))
   -- every run keeps its promises, whatever it is lent
   pub runs : (image : List ℕ) (lent : Lent) (terms : Terms) → RunPromises image lent terms (runOf image lent terms)
   -- 02, 8: every begin, every step, and what a begin and steps make
@@ -299,14 +417,20 @@ pub record Promises : Type 0 where
       (c d : Configuration) → Valid image → WorksIn (systemOf image) rooms edition (map (givenOf image) steps) c → c .pending ≡ X ∷ rest
       → step (systemOf image) (givenOf image terms) c ≡ blocks d
       → T (passes (systemOf image) (c .table) (c .level - suc (length rest)) (X .case) (X .case))
-  -- 02, 7: what is counted, and which state is picked
+  -- 01: what a block makes, of every configuration
+  pub block-makes : (image : List ℕ) (given : Given) (X : Pending) (rest : List Pending) (c d : Configuration) → c .pending ≡ X ∷ rest
+      → step (systemOf image) given c ≡ blocks d → BlockPromises image given (c .level - suc (length rest)) X c d
+  -- what holds wherever a run works, at once or step by step
+  pub working : (image : List ℕ) (rooms : Rooms) (edition : ℕ) (steps : List Terms) (c : Configuration) → Valid image
+      → WorksIn (systemOf image) rooms edition (map (givenOf image) steps) c → WorkingPromises image rooms edition (map (givenOf image) steps) c
+  -- 02, 7: a growth through a hitting set; what is counted, and which state is picked
+  pub hits : (image : List ℕ) (table : List Blocker) (below X : ℕ) → Valid image
+      → HittingPromises image table below X (λ s. cover (statesOf image) (initialOf image) table below X (backward (rowsOf image s) X))
+      (picked (statesOf image) (toMeet (systemOf image) (rowsOf image) table below X)) (growthOf 1 (systemOf image) (rowsOf image) table below X)
   pub counts-once : (X : ℕ) (cases : List ℕ) → CountedOnce X cases (withCases X [] cases)
   pub picks-most : (n : ℕ) (sets : List ℕ) → 1 ≤ n → MeetsMost n sets (best n sets)
-  -- 02, 10, of every table that a run comes to on its way
-  pub entered-in-order : (image : List ℕ) (rooms : Rooms) (edition : ℕ) (steps : List Terms) (c : Configuration) → Valid image
-      → WorksIn (systemOf image) rooms edition (map (givenOf image) steps) c → EnteredInOrder 0 (c .steps) (c .table)
-  -- 02, 2: why a case is blocked at a level, for every table; I is a mask, which has 64 bits
-  pub why-tells : (initial : ℕ) (table : List Blocker) (i X : ℕ) → T (within 64 initial) → WhyPromises initial table i X (why initial table i X)
+  -- 02, 2: why a case is blocked at a level, for every table
+  pub why-tells : (initial : ℕ) (table : List Blocker) (i X : ℕ) → WhyPromises initial table i X (why initial table i X)
   -- "Of masks and levels of unlike length, the shorter table says how many blockers there are."
   pub shorter-counts : (masks levels : List ℕ) → length (blockersIn masks levels) ≡ min (length masks) (length levels)
   -- 02, 3: "let it tell how many of the symbol's rows it walked"

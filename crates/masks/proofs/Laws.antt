@@ -4,7 +4,7 @@ use mathlib.Core.Path.{_≡_, refl, sym, ap, subst, _∙_}
 use mathlib.Core.Bool.{Bool, true, false}
 use mathlib.Core.Logic.{_⊎_, inl, inr, _↔_}
 use mathlib.Core.Option.{Option, none, some}
-use native.Mathlib.Nat.{zero-mul, zero-mod, one-mul, mod-eq-of-lt, lt-of-lt-of-le}
+use native.Mathlib.Nat.{zero-mul, zero-mod, one-mul, mod-eq-of-lt, lt-of-lt-of-le, pow-suc}
 use native.Mathlib.Decide.{ℕ-discrete, decLe}
 use native.Mathlib.Omega.{arith}
 use borrow.Author.Tests.{lt-ltb}
@@ -14,9 +14,8 @@ use lib.Dec.{T, eqb, leb, ltb, eqb→eq, eqb-refl, ltb→lt, lt→ltb, leb·suc-
 use lib.Pow.{pow-lt, pow-mono, suc-ones, ones-split, ones-lt, high}
 use mir.Val.{boolByte}
 use Rattle.lists.specs.Tests.{choose}
-use Rattle.lists.specs.Lists.{firstFrom}
 use Rattle.lists.proofs.Tests.{holds, fails, same-test, decide, and-left, and-right, and-both, neg-fails, fails-neg}
-use Rattle.lists.proofs.Lists.{first-from-some, first-from-least}
+use Rattle.lists.proofs.Lists.{first-from-none, first-from-some, first-from-before, first-from-least}
 use Rattle.masks.specs.Sets.{digit, Member, member, subset, union, without, single, full, within, absent, lowestAbsent}
 use Rattle.masks.proofs.Digits.{digit-and, digit-or, digit-xor, digit-zero, same-digits, digit-power-self, digit-power-other, digit-above}
 use Rattle.masks.proofs.Digits.{below-power, trailing-set, trailing-zero}
@@ -262,6 +261,24 @@ without-tested a b q missing test m e =
     ∙ same-test (member q (without a b)) (absent a b q) (λ t. without-absent a b q .0 (member-means q _ .0 t))
     (λ t. member-means q _ .1 (without-absent a b q .1 t))
 
+-- a state's number is lower than that of a set which has it
+below-power-of : (a : ℕ) → a < 2 ^ a
+below-power-of zero = omega arith
+below-power-of (suc a) = omega (arith, below-power-of a, pow-suc 2 a)
+
+pub member-below : (a q : ℕ) → Member q a → q < a
+member-below a q i = digit-above a a (below-power-of a) q i
+
+-- so there is none exactly if a is a subset of b, and else the lowest is found
+pub lowest-found : (a b q : ℕ) → lowestAbsent a b ≡ some q → T (absent a b q) × ((p : ℕ) → p < q → T (absent a b p) → ⊥)
+unfolding lowestAbsent
+lowest-found a b q e = (first-from-some (absent a b) a 0 e .2, λ p l. first-from-before (absent a b) a 0 e p (omega arith) l)
+
+pub none-found : (a b : ℕ) → lowestAbsent a b ≡ none → T (subset a b)
+unfolding lowestAbsent
+none-found a b e =
+    none-absent a b (λ q t. first-from-none (absent a b) a 0 e q (omega arith) (omega (arith, member-below a q (absent-means a b q .0 t .0))) t)
+
 -- the lowest of them stands above the zeros at the end, of which there are few
 pub trailing-fits : (a : ℕ) → trailingZeros 64 a < 2 ^ 8
 trailing-fits a = omega (arith, trailing-le 64 a)
@@ -269,7 +286,7 @@ trailing-fits a = omega (arith, trailing-le 64 a)
 pub lowest-trailing : (a b missing : ℕ) → a < 2 ^ 64 → subset a b ≡ false → missing ≡ without a b → lowestAbsent a b ≡ some (trailingZeros 64 missing)
 unfolding lowestAbsent
 lowest-trailing a b missing l f e =
-    first-from-least (absent a b) 64 0 lowest (omega arith) (omega (arith, there)) (is-absent lowest .0 (trailing-set 64 missing there))
+    first-from-least (absent a b) a 0 lowest (omega arith) (omega (arith, member-below a lowest (absent-means a b lowest .0 found .0))) found
     (λ p m k t. let d = trailing-zero 64 missing p k in let one = is-absent p .1 t in omega arith)
   where
     is-absent : (q : ℕ) → Member q missing ↔ T (absent a b q)
@@ -290,11 +307,13 @@ lowest-trailing a b missing l f e =
             let d = trailing-zero 64 missing q (omega (arith, h)) in
             omega arith)))
 
+    found : T (absent a b lowest)
+    found = is-absent lowest .0 (trailing-set 64 missing there)
+
 -- there is none where a is a subset of b
 pub lowest-none : (a b : ℕ) → subset a b ≡ true → lowestAbsent a b ≡ none
-unfolding lowestAbsent
-lowest-none a b e = at (firstFrom (absent a b) 64 0) refl
+lowest-none a b e = at (lowestAbsent a b) refl
   where
-    at : (found : Option ℕ) → firstFrom (absent a b) 64 0 ≡ found → found ≡ none
+    at : (found : Option ℕ) → lowestAbsent a b ≡ found → found ≡ none
     at none r = refl
-    at (some q) r = absurd (one-absent a b q (first-from-some (absent a b) 64 0 r .2) (holds e))
+    at (some q) r = absurd (one-absent a b q (lowest-found a b q r .0) (holds e))

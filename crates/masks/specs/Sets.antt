@@ -1,5 +1,5 @@
 -- Sets of states as numbers: 01's "A case is a set of states, written as a mask: bit q stands for state q".
--- Tests that compute; what each means of the states is a law of proofs/Laws.antt. Nothing here but `lowestAbsent` has a width: the laws hold for every n.
+-- Tests that compute; what each means of the states is promised (`MasksMean`). Nothing here has a width: the laws hold for every n.
 -- Assumes nothing.
 use Prim.Native.Nat.{ℕ, _-_, _/_, _%_, _^_}
 use mathlib.Core.Path.{_≡_}
@@ -50,6 +50,6 @@ within n set = ltb set (2 ^ n)
 unfoldable pub absent : ℕ → ℕ → ℕ → Bool
 absent a b q = member q a and neg (member q b)
 
--- of the 64 states that a mask can have, the lowest that is in the first set and absent from the second
+-- the lowest state that is in the first set and absent from the second; a state's number is lower than that of a set which has it
 unfoldable pub lowestAbsent : ℕ → ℕ → Option ℕ
-lowestAbsent a b = firstFrom (absent a b) 64 0
+lowestAbsent a b = firstFrom (absent a b) a 0

@@ -1,5 +1,5 @@
 -- Whether a backward set is settled, by the reason why it is blocked. Assumes nothing.
-use Prim.Native.Nat.{ℕ, _^_, _<_}
+use Prim.Native.Nat.{ℕ}
 use mathlib.Core.Path.{_≡_, sym, _∙_}
 use mathlib.Core.Bool.{Bool, true, false}
 use mathlib.Core.List.{List}
@@ -16,7 +16,7 @@ module _ (initial : ℕ) (table : List Blocker) (below Y P : ℕ) (inside : Bool
   unfolding settled _or_
   settled-inside t = sym (rw (← test, t))
 
-  pub settled-told : (r : Reason) (told : Bool) → initial < 2 ^ 64 → reasonOf r ≡ why initial table below P → told ≡ isReason (reasonOf r)
+  pub settled-told : (r : Reason) (told : Bool) → reasonOf r ≡ why initial table below P → told ≡ isReason (reasonOf r)
       → inside ≡ false → told ≡ settled initial table below Y P
   unfolding settled _or_
-  settled-told r told narrow e t f = blocked-told initial table below P r told narrow e t ∙ sym (rw (← test, f))
+  settled-told r told e t f = blocked-told initial table below P r told e t ∙ sym (rw (← test, f))

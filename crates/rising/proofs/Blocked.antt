@@ -12,7 +12,7 @@ use Rattle.automata.specs.Image.{symbolsOf, rowsOf}
 use Rattle.automata.specs.Automaton.{backward}
 use Rattle.automata.specs.declared.image.Head.{Head}
 use Rattle.automata.specs.Answers.{ReadAs}
-use Rattle.automata.proofs.Reading.{head-initial, initial-narrow}
+use Rattle.automata.proofs.Reading.{head-initial}
 use Rattle.automata.proofs.EachSymbol.{EachTried, each-goes, each-fails, each-ends}
 use Rattle.machine.specs.System.{System}
 use Rattle.machine.specs.Machine.{Blocker, blocked, rises}
@@ -33,7 +33,7 @@ module _ (image : List ℕ) (table : List Blocker) (level mask : ℕ) {head : He
     (tried : EachTried image (blocked (head .initial) table level) mask symbols s) (P : ℕ) (r : Reason) (told : Bool) (l : s < symbols)
     (back : P ≡ backward (rowsOf image s) mask) (e : reasonOf r ≡ why (head .initial) table level P) (tells : told ≡ isReason (reasonOf r)) where
   is-blocked : told ≡ blocked (head .initial) table level P
-  is-blocked = blocked-told (head .initial) table level P r told (initial-narrow read) e tells
+  is-blocked = blocked-told (head .initial) table level P r told e tells
 
   pub rise-goes : not told ≡ false → EachTried image (blocked (head .initial) table level) mask symbols (s + 1)
   rise-goes n = each-goes tried P told l back is-blocked n
