@@ -28,5 +28,6 @@ pub mod AnyRecord
 pub mod RecordSteps
 pub mod StepsKept
 pub mod Printing
+pub mod ProgramLines
 pub mod Kept
 pub mod StarredRight

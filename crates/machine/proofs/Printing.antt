@@ -1,10 +1,10 @@
 -- The promises of the print of a word's run. Assumes nothing.
 use Prim.Native.Nat.{ℕ, suc, _+_, _*_, _^_, _≤_, _<_}
 use mathlib.Core.Path.{_≡_, refl, ap, _∙_}
-use mathlib.Core.List.{List, [], _∷_, _++_}
+use mathlib.Core.List.{List, [], _∷_, _++_, map}
 use native.Mathlib.Omega.{arith}
 use lib.Dec.{T, eqb, eqb→eq}
-use lib.ListN.{length, length-append}
+use lib.ListN.{length, take, length-append}
 use Rattle.lists.specs.Lists.{here, there, Each}
 use Rattle.lists.proofs.Tests.{is-false, choose-true, choose-false}
 use Rattle.masks.specs.Sets.{subset}
@@ -17,10 +17,12 @@ use Rattle.automata.proofs.ValidImage.{valid-kept, case-narrow, valid-proper}
 use Rattle.automata.proofs.PickedRuns.{picked-run, all-picked, events-known}
 use Rattle.automata.proofs.AcceptedWords.{accepted-means}
 use Rattle.writing.specs.Decimal.{digits}
+use Rattle.writing.specs.Lines.{behindNumber, numbersLine, textOf, readLines}
 use Rattle.writing.specs.Rooms.{Answer, noBytes, allBytes, fittedBytes}
 use Rattle.writing.proofs.Decimals.{few-digits, twenty-digits}
+use Rattle.writing.proofs.ReadingBack.{read-text, written-reads-back}
 use Rattle.writing.proofs.Placing.{bytes-whole, bytes-short}
-use Rattle.machine.specs.Print.{startLine, eventLine, eventLines, printOf, printRun}
+use Rattle.machine.specs.Print.{eventNumbers, runLines, printOf, printRun}
 use Rattle.machine.specs.Promises.{PrintPromises}
 use Rattle.machine.proofs.WordTests.{says-yes}
 
@@ -35,12 +37,12 @@ module _ (image word room : List ℕ) where
   is-printed e = choose-true (fittedBytes 1 (printOf (automatonOf image) word) room) (noBytes (wordTest image word) room) (ap (λ (n : ℕ). eqb n 1) e)
 
 -- how long lines are: of a symbol below 100 and a case of 64 states at most 24 bytes, and the first at most 21
-start-short : (initial : ℕ) → initial < 2 ^ 64 → length (startLine initial) ≤ 21
-unfolding startLine
+start-short : (initial : ℕ) → initial < 2 ^ 64 → length (numbersLine (initial ∷ [])) ≤ 21
+unfolding numbersLine behindNumber
 start-short initial l = omega (arith, length-append (digits initial) (10 ∷ []), twenty-digits initial l)
 
-line-short : (event : Event) → event .symbol < 100 → event .case < 2 ^ 64 → length (eventLine event) ≤ 24
-unfolding eventLine
+line-short : (event : Event) → event .symbol < 100 → event .case < 2 ^ 64 → length (numbersLine (eventNumbers event)) ≤ 24
+unfolding eventNumbers numbersLine behindNumber
 line-short event s c =
     omega (
       arith,
@@ -50,13 +52,14 @@ line-short event s c =
       twenty-digits (event .case) c,
     )
 
-lines-short : (events : List Event) → Each (λ event. (event .symbol < 100) × (event .case < 2 ^ 64)) events → length (eventLines events) ≤ 24 * length events
-unfolding eventLines
+lines-short : (events : List Event) → Each (λ event. (event .symbol < 100) × (event .case < 2 ^ 64)) events
+    → length (textOf (map eventNumbers events)) ≤ 24 * length events
+unfolding textOf
 lines-short [] f = omega arith
 lines-short (event ∷ events) f =
     omega (
       arith,
-      length-append (eventLine event) (eventLines events),
+      length-append (numbersLine (eventNumbers event)) (textOf (map eventNumbers events)),
       line-short event (f event (here refl) .0) (f event (here refl) .1),
       lines-short events (λ e m. f e (there m)),
     )
@@ -85,19 +88,31 @@ module _ (image word : List ℕ) (valid : Valid image) (accepted : Accepted (aut
       all-picked (automatonOf image) proper (finalOf image) word (means .0) (initialOf image) (proper .initial-within) (means .1)
 
   print-length : length (printOf (automatonOf image) word) ≤ 21 + 24 * length word
-  unfolding printOf eventsOf
+  unfolding printOf runLines textOf eventsOf
   print-length =
       let proper = valid-proper image valid in
       let known = events-known (automatonOf image) proper (finalOf image) word (means .0) (initialOf image) (proper .initial-within) (means .1) in
       let events = eventsOver (automatonOf image) (finalOf image) (initialOf image) word in
       omega (
         arith,
-        length-append (startLine (initialOf image)) (eventLines events),
+        length-append (numbersLine (initialOf image ∷ [])) (textOf (map eventNumbers events)),
         start-short (initialOf image) (case-narrow image valid (initialOf image) (proper .initial-within)),
         lines-short events
             (λ event m. (omega (arith, known event m .0, valid-kept image valid .symbols-fit), case-narrow image valid (event .case) (known event m .1))),
         events-many (automatonOf image) (finalOf image) (initialOf image) word,
       )
+
+-- the print reads back as its lines, and so does what was written into a room
+pub print-reads-back : (A : Automaton) (word : List ℕ) → readLines (printOf A word) ≡ runLines A word
+unfolding printOf
+print-reads-back A word = read-text (runLines A word)
+
+pub print-written-reads-back : (image word room : List ℕ) → wordTest image word ≡ 1 → length (printOf (automatonOf image) word) ≤ length room
+    → readLines (take (printRun image word room .written) (printRun image word room .room)) ≡ runLines (automatonOf image) word
+unfolding printOf
+print-written-reads-back image word room e l =
+    ap (λ (answer : Answer). readLines (take (answer .written) (answer .room))) (is-printed image word room e)
+    ∙ written-reads-back 1 (runLines (automatonOf image) word) room l
 
 pub prints-kept : (image word room : List ℕ) → PrintPromises image word room (printRun image word room)
 unfolding allBytes

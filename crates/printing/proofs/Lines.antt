@@ -1,5 +1,5 @@
--- The lines as they are written, the loop over the events, and lines put one after the other up to a limit. Assumes nothing.
-use Prim.Native.Nat.{ℕ, suc, _+_, _^_, _≤_, _<_}
+-- The lines as they are written, the loop over the events, and the lines of a word's parts. Assumes nothing.
+use Prim.Native.Nat.{ℕ, suc, _+_, _≤_, _<_}
 use mathlib.Core.Path.{_≡_, refl, sym, ap, subst, _∙_}
 use mathlib.Core.List.{List, [], _∷_, _++_, append-assoc}
 use native.Mathlib.Omega.{arith}
@@ -9,27 +9,30 @@ use Rattle.lists.proofs.Lists.{drop-first}
 use Rattle.automata.specs.Automaton.{Automaton, automatonOf, takenBack}
 use Rattle.automata.specs.Picks.{reached, Event, eventsOver}
 use Rattle.writing.specs.Decimal.{digits}
+use Rattle.writing.specs.Lines.{behindNumber, numbersLine, textOf}
+use Rattle.writing.specs.Putting.{Puts}
 use Rattle.writing.proofs.Placing.{written-behind}
-use Rattle.machine.specs.Print.{startLine, eventLine, eventLines}
+use Rattle.writing.proofs.LinesPut.{puts-joined}
+use Rattle.machine.specs.Print.{eventNumbers}
 use Rattle.printing.specs.Steps.{setsBehind, eventsBy, casesOf, caseAfter}
-use Rattle.printing.specs.Putting.{eventsIn, Puts, PutsEvents}
+use Rattle.printing.specs.Putting.{eventsIn, eventLines, PutsEvents}
 use Rattle.printing.proofs.SetsBehind.{events-joined, behind, parts-joined}
 use Rattle.printing.proofs.Stepping.{filled-events}
 
 -- the first line
 module _ (n end : ℕ) (e : end ≡ 0 + length (digits n)) where
-  pub start-place : end + 1 ≡ length (startLine n)
-  unfolding startLine
+  pub start-place : end + 1 ≡ length (numbersLine (n ∷ []))
+  unfolding numbersLine behindNumber
   start-place = let l : length (digits n ++ (10 ∷ [])) ≡ length (digits n) + 1 = length-append (digits n) (10 ∷ []) in omega (arith, e, l)
 
-  pub start-bytes : (l m r : List ℕ) → m ≡ sets l 0 (digits n) → r ≡ sets m end (10 ∷ []) → r ≡ sets l 0 (startLine n)
-  unfolding startLine
+  pub start-bytes : (l m r : List ℕ) → m ≡ sets l 0 (digits n) → r ≡ sets m end (10 ∷ []) → r ≡ sets l 0 (numbersLine (n ∷ []))
+  unfolding numbersLine behindNumber
   start-bytes l m r a b = written-behind l m r (digits n) (10 ∷ []) 0 end a e b
 
 -- an event's line
 module _ (at s middle case end : ℕ) (em : middle ≡ at + length (digits s)) (ee : end ≡ middle + 1 + length (digits case)) where
-  pub event-place : end + 1 ≡ at + length (eventLine (record { symbol = s; case = case }))
-  unfolding eventLine
+  pub event-place : end + 1 ≡ at + length (numbersLine (s ∷ case ∷ []))
+  unfolding numbersLine behindNumber
   event-place =
       let a : length (digits s ++ (32 ∷ (digits case ++ (10 ∷ [])))) ≡ length (digits s) + suc (length (digits case ++ (10 ∷ []))) =
       length-append (digits s) (32 ∷ (digits case ++ (10 ∷ []))) in
@@ -37,8 +40,8 @@ module _ (at s middle case end : ℕ) (em : middle ≡ at + length (digits s)) (
       omega (arith, em, ee, a, b)
 
   pub event-bytes : (l l1 l2 l3 l4 : List ℕ) → l1 ≡ sets l at (digits s) → l2 ≡ sets l1 middle (32 ∷ []) → l3 ≡ sets l2 (middle + 1) (digits case)
-      → l4 ≡ sets l3 end (10 ∷ []) → l4 ≡ sets l at (eventLine (record { symbol = s; case = case }))
-  unfolding eventLine
+      → l4 ≡ sets l3 end (10 ∷ []) → l4 ≡ sets l at (numbersLine (s ∷ case ∷ []))
+  unfolding numbersLine behindNumber
   event-bytes l l1 l2 l3 l4 e1 e2 e3 e4 =
       written-behind l l1 l4 (digits s) (32 ∷ (digits case ++ (10 ∷ []))) at middle e1 em
       (written-behind l1 l2 l4 (32 ∷ []) (digits case ++ (10 ∷ [])) middle (middle + 1) e2 refl
@@ -54,24 +57,21 @@ pub record Printing (word table : List ℕ) (start : ℕ) (before room : List �
 pub printing-starts : {word table : List ℕ} {start : ℕ} {room : List ℕ} → Printing word table start room room start 0
 printing-starts = record { bound = omega arith; long = refl; counts = refl; writes = refl }
 
-pub below-limit : (end limit : ℕ) → end ≤ limit → limit < 2 ^ 63 → end < 2 ^ 63
-below-limit end limit h k = omega arith
-
 module _ {word table : List ℕ} {start : ℕ} {before room : List ℕ} {end i : ℕ} (p : Printing word table start before room end i) where
   -- the lines to come: this event's, and those behind it
   lines-more : i < length word → length word ≤ length table → eventLines (eventsIn (drop i word) (drop i table))
-      ≡ eventLine (record { symbol = getD word i 0; case = getD table i 0 }) ++ eventLines (eventsIn (drop (i + 1) word) (drop (i + 1) table))
-  unfolding eventsIn eventLines
+      ≡ numbersLine (getD word i 0 ∷ getD table i 0 ∷ []) ++ eventLines (eventsIn (drop (i + 1) word) (drop (i + 1) table))
+  unfolding eventsIn eventLines textOf eventNumbers
   lines-more l places =
       ap (λ (w : List ℕ). eventLines (eventsIn w (drop i table))) (drop-first word i l)
       ∙ ap (λ (t : List ℕ). eventLines (eventsIn (getD word i 0 ∷ drop (i + 1) word) t)) (drop-first table i (omega arith))
 
   pub printing-next : (after : List ℕ) (next : ℕ) → i < length word → length word ≤ length table
-      → next ≡ end + length (eventLine (record { symbol = getD word i 0; case = getD table i 0 }))
-      → after ≡ sets room end (eventLine (record { symbol = getD word i 0; case = getD table i 0 })) → length after ≡ length room
+      → next ≡ end + length (numbersLine (getD word i 0 ∷ getD table i 0 ∷ []))
+      → after ≡ sets room end (numbersLine (getD word i 0 ∷ getD table i 0 ∷ [])) → length after ≡ length room
       → Printing word table start before after next (i + 1)
   printing-next after next l places place bytes kept =
-      let line = eventLine (record { symbol = getD word i 0; case = getD table i 0 }) in
+      let line = numbersLine (getD word i 0 ∷ getD table i 0 ∷ []) in
       let rest = eventLines (eventsIn (drop (i + 1) word) (drop (i + 1) table)) in
       let split : length (eventLines (eventsIn (drop i word) (drop i table))) ≡ length line + length rest
       = ap length (lines-more l places) ∙ length-append line rest in
@@ -86,7 +86,7 @@ module _ {word table : List ℕ} {start : ℕ} {before room : List ℕ} {end i :
   printing-passed l = record { counted = omega (arith, p .counts); written = λ h. absurd (omega arith) }
 
   none-left : length word ≤ i → eventLines (eventsIn (drop i word) (drop i table)) ≡ []
-  unfolding eventsIn eventLines
+  unfolding eventsIn eventLines textOf eventNumbers
   none-left h = ap (λ (w : List ℕ). eventLines (eventsIn w (drop i table))) (drop-of-length-le word h)
 
   pub printing-ends : {limit : ℕ} → length word ≤ i → Puts (eventLines (eventsIn word table)) start limit end before room
@@ -125,27 +125,16 @@ word-put image word z x start limit end case places filled table before after ef
 
 -- two parts, one after the other
 lines-joined : (a b : List Event) → eventLines (a ++ b) ≡ eventLines a ++ eventLines b
-unfolding eventLines
+unfolding eventLines textOf
 lines-joined [] b = refl
 lines-joined (event ∷ a) b =
-    ap (λ (lines : List ℕ). eventLine event ++ lines) (lines-joined a b) ∙ sym (append-assoc (eventLine event) (eventLines a) (eventLines b))
+    let line = numbersLine (eventNumbers event) in
+    ap (λ (lines : List ℕ). line ++ lines) (lines-joined a b) ∙ sym (append-assoc line (eventLines a) (eventLines b))
 
 after-joined : (X : ℕ) (a b : List Event) → caseAfter X (a ++ b) ≡ caseAfter (caseAfter X a) b
 unfolding caseAfter
 after-joined X [] b = refl
 after-joined X (event ∷ a) b = after-joined (event .case) a b
-
--- bytes put behind others
-pub puts-joined : {a b : List ℕ} {start limit middle end : ℕ} {before between after : List ℕ} → Puts a start limit middle before between
-    → Puts b middle limit end between after → Puts (a ++ b) start limit end before after
-puts-joined {a} {b} {start} {limit} {middle} {end} {before} {between} {after} first second =
-    let long : length (a ++ b) ≡ length a + length b = length-append a b in
-    record {
-      counted = omega (arith, first .counted, second .counted, long);
-      written = λ h.
-          let near : middle ≤ limit = omega (arith, second .counted, h) in
-          written-behind before between after a b start middle (first .written near) (omega (arith, first .counted, near)) (second .written h);
-    }
 
 -- the events of a word's halves
 module _ (image word : List ℕ) (z x half start limit : ℕ) (before between after : List ℕ) (middle : ℕ) (end case end′ case′ : ℕ) where

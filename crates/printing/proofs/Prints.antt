@@ -2,7 +2,7 @@
 use Prim.Native.Nat.{ℕ, _≤_, _<_}
 use mathlib.Core.Path.{_≡_, sym, ap, subst, _∙_}
 use mathlib.Core.Bool.{Bool, true, false, not}
-use mathlib.Core.List.{List, _++_}
+use mathlib.Core.List.{List, [], _∷_, _++_}
 use native.Mathlib.Omega.{arith}
 use borrow.Author.Tests.{not-true, not-false}
 use lib.ListN.{length}
@@ -16,22 +16,24 @@ use Rattle.automata.specs.declared.image.Image.{Image}
 use Rattle.automata.specs.declared.image.Image.the-variants as Read
 use Rattle.automata.proofs.WordTests.{word-of-tested, test-refused, refused-high}
 use Rattle.writing.specs.Rooms.{Answer, noBytes, fittedBytes}
-use Rattle.writing.proofs.Placing.{bytes-fit, bytes-short}
-use Rattle.machine.specs.Print.{startLine, eventLines, printOf, printRun}
+use Rattle.writing.specs.Lines.{numbersLine, textOf}
+use Rattle.writing.specs.Putting.{Puts}
+use Rattle.writing.proofs.LinesPut.{puts-joined}
+use Rattle.machine.specs.Print.{runLines, printOf, printRun}
 use Rattle.machine.proofs.Printing.{not-printed, is-printed}
 use Rattle.printing.specs.Steps.{casesOf, Ready}
-use Rattle.printing.specs.Putting.{eventsIn, Puts, PutsEvents}
-use Rattle.printing.proofs.Lines.{table-put, puts-joined}
+use Rattle.printing.specs.Putting.{eventsIn, eventLines, PutsEvents}
+use Rattle.printing.proofs.Lines.{table-put}
 
 -- the whole print: the first line, and the events' lines behind it, by a table that is ready or without one
 module _ (image word : List ℕ) (head : Head) (eh : head ≡ headOf image) (limit start : ℕ) (before between after : List ℕ)
-    (es : start ≡ length (startLine (head .initial))) (eb : between ≡ sets before 0 (startLine (head .initial))) where
+    (es : start ≡ length (numbersLine (head .initial ∷ []))) (eb : between ≡ sets before 0 (numbersLine (head .initial ∷ []))) where
   lines-put : (end : ℕ) → Puts (eventLines (eventsOver (automatonOf image) (head .finals) (head .initial) word)) start limit end between after
       → Puts (printOf (automatonOf image) word) 0 limit end before after
-  unfolding printOf eventsOf
+  unfolding printOf runLines textOf eventLines eventsOf
   lines-put end p =
-      subst (λ (h : Head). Puts (startLine (h .initial) ++ eventLines (eventsOver (automatonOf image) (h .finals) (h .initial) word)) 0 limit end before after) eh
-      (puts-joined {a = startLine (head .initial)} (record { counted = omega (arith, es); written = λ h. eb }) p)
+      subst (λ (h : Head). Puts (numbersLine (h .initial ∷ []) ++ eventLines (eventsOver (automatonOf image) (h .finals) (h .initial) word)) 0 limit end before after) eh
+      (puts-joined {a = numbersLine (head .initial ∷ [])} (record { counted = omega (arith, es); written = λ h. eb }) p)
 
   pub run-put : (end case : ℕ) → PutsEvents (eventsOver (automatonOf image) (head .finals) (head .initial) word) (head .initial) start limit end case between after
       → Puts (printOf (automatonOf image) word) 0 limit end before after
@@ -44,21 +46,6 @@ module _ (image word : List ℕ) (head : Head) (eh : head ≡ headOf image) (lim
       lines-put end
       (table-put image word (ready .rest) table (head .finals) (head .initial) start limit end between after
       (ready .holds l ∙ ap (λ (h : Head). casesOf (eventsOver (automatonOf image) (h .finals) (h .initial) word) ++ ready .rest) (sym eh)) p)
-
--- bytes that were counted, and then written if they fit
-module _ (bytes room : List ℕ) (size : ℕ) (before after : List ℕ) (counted : Puts bytes 0 (length room) size before after) where
-  pub print-short : length room < size → record { number = 35; written = 0; room = room } ≡ fittedBytes 1 bytes room
-  unfolding noBytes
-  print-short h = sym (bytes-short 1 bytes room (omega (arith, counted .counted)))
-
-  pub print-fits : (again : ℕ) (room′ : List ℕ) → size ≤ length room → Puts bytes 0 (length room) again room room′
-      → record { number = 1; written = size; room = room′ } ≡ fittedBytes 1 bytes room
-  print-fits again room′ h p =
-      ap (λ (n : ℕ). record { number = 1; written = n; room = room′ }) long
-      ∙ bytes-fit 1 bytes room room′ (omega (arith, long)) (p .written (omega (arith, p .counted, long)))
-    where
-      long : size ≡ length bytes
-      long = omega (arith, counted .counted)
 
 -- the word test's number where that is not 1
 nothing-printed : (image word room : List ℕ) (number : ℕ) → number ≡ wordTest image word → (number ≡ 1 → ⊥)

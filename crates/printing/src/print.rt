@@ -12,6 +12,7 @@ use writing::Written;
 use writing::put_byte;
 use writing::put_number;
 ghost use mathlib.Core.Path.{_≡_};
+ghost use mathlib.Core.List.{[], _∷_};
 ghost use Prim.Native.Nat.{_+_, _^_, _≤_, _<_};
 ghost use lib.ListN.{length};
 ghost use lib.Seq.{sets};
@@ -19,10 +20,12 @@ ghost use Rattle.automata.specs.Automaton.{automatonOf};
 ghost use Rattle.automata.specs.WordTest.{WordOf};
 ghost use Rattle.automata.specs.Picks.{eventsOver};
 ghost use Rattle.automata.specs.Answers.{headOf};
+ghost use Rattle.writing.specs.Lines.{numbersLine};
 ghost use Rattle.writing.specs.Rooms.{answerOf, fittedBytes};
-ghost use Rattle.machine.specs.Print.{startLine, eventLine, eventLines, printOf, printRun};
+ghost use Rattle.writing.specs.Putting.{Puts};
+ghost use Rattle.machine.specs.Print.{printOf, printRun};
 ghost use Rattle.printing.specs.Steps.{Ready};
-ghost use Rattle.printing.specs.Putting.{eventsIn, Puts, PutsEvents};
+ghost use Rattle.printing.specs.Putting.{eventsIn, eventLines, PutsEvents};
 
 // The place behind what was put, and the case that its events reach.
 struct Put {
@@ -32,8 +35,8 @@ struct Put {
 
 // The first line; answers the place behind it.
 fn put_start(room: &mut [u8], initial: u64) -> usize
-    ensures place { λ r. ⌜ r ≡ length (startLine initial) ⌝ }
-    ensures bytes { λ r. ⌜ now (room .exit) ≡ sets (now (room .entry)) 0 (startLine initial) ⌝ }
+    ensures place { λ r. ⌜ r ≡ length (numbersLine (initial ∷ [])) ⌝ }
+    ensures bytes { λ r. ⌜ now (room .exit) ≡ sets (now (room .entry)) 0 (numbersLine (initial ∷ [])) ⌝ }
 {
     let end = put_number(room, 0, initial);
     put_byte(room, end, 10);
@@ -43,8 +46,8 @@ fn put_start(room: &mut [u8], initial: u64) -> usize
 // An event's line from a place on; answers the place behind it.
 fn put_event(room: &mut [u8], at: usize, symbol: Symbol, case: u64) -> usize
     requires { ⌜ at < 2 ^ 63 ⌝ }
-    ensures place { λ r. ⌜ r ≡ at + length (eventLine (record { symbol = symbol .0; case = case })) ⌝ }
-    ensures bytes { λ r. ⌜ now (room .exit) ≡ sets (now (room .entry)) at (eventLine (record { symbol = symbol .0; case = case })) ⌝ }
+    ensures place { λ r. ⌜ r ≡ at + length (numbersLine (symbol .0 ∷ case ∷ [])) ⌝ }
+    ensures bytes { λ r. ⌜ now (room .exit) ≡ sets (now (room .entry)) at (numbersLine (symbol .0 ∷ case ∷ [])) ⌝ }
 {
     let middle = put_number(room, at, symbol.0 as u64);
     put_byte(room, middle, 32);

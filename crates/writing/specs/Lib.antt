@@ -1,2 +1,4 @@
 pub mod Decimal
+pub mod Lines
 pub mod Rooms
+pub mod Putting

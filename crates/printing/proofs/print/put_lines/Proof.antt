@@ -1,7 +1,8 @@
 use borrow.Author.Needs.{needs}
 use Prim.Native.Nat.{_-_}
 use lib.ListN.{length}
-use Rattle.printing.proofs.Lines.{Printing, printing-starts, below-limit, printing-next, printing-passed, printing-ends}
+use Rattle.writing.proofs.LinesPut.{below-limit}
+use Rattle.printing.proofs.Lines.{Printing, printing-starts, printing-next, printing-passed, printing-ends}
 use Rattle.printing.proofs.print.put_lines.Statement.{statement}
 use Rattle.printing.proofs.print.put_lines.Tie as tie
 
