@@ -17,6 +17,7 @@ use Rattle.machine.proofs.LentTables.{blockers-length}
 use Rattle.machine.proofs.Images.{accepted-exactly, walk-tells}
 use Rattle.machine.proofs.Blocks.{block-makes}
 use Rattle.machine.proofs.Printing.{prints-kept}
+use Rattle.machine.proofs.ProgramLines.{lines-kept}
 
 pub kept : Promises
 kept = record {
@@ -62,6 +63,7 @@ kept = record {
   shorter-counts = λ masks levels. blockers-length _ _ _;
   walk-tells = walk-tells;
   prints = prints-kept;
+  prints-lines = lines-kept;
   decimals = digits-decimal;
   decimal-zero = digits-one 0 (omega arith);
 }

@@ -1,12 +1,12 @@
 -- The promises of the print of a word's run. Assumes nothing.
 use Prim.Native.Nat.{ℕ, suc, _+_, _*_, _^_, _≤_, _<_}
-use mathlib.Core.Path.{_≡_, refl, ap, _∙_}
+use mathlib.Core.Path.{_≡_, refl, sym, ap, subst, _∙_}
 use mathlib.Core.List.{List, [], _∷_, _++_, map}
 use native.Mathlib.Omega.{arith}
 use lib.Dec.{T, eqb, eqb→eq}
 use lib.ListN.{length, take, length-append}
 use Rattle.lists.specs.Lists.{here, there, Each}
-use Rattle.lists.proofs.Tests.{is-false, choose-true, choose-false}
+use Rattle.lists.proofs.Tests.{is-false, choose-true, choose-false, choose-either}
 use Rattle.masks.specs.Sets.{subset}
 use Rattle.automata.specs.Image.{Valid, symbolsOf, initialOf, finalOf}
 use Rattle.automata.specs.Automaton.{Automaton, automatonOf, takenBack}
@@ -17,11 +17,11 @@ use Rattle.automata.proofs.ValidImage.{valid-kept, case-narrow, valid-proper}
 use Rattle.automata.proofs.PickedRuns.{picked-run, all-picked, events-known}
 use Rattle.automata.proofs.AcceptedWords.{accepted-means}
 use Rattle.writing.specs.Decimal.{digits}
-use Rattle.writing.specs.Lines.{behindNumber, numbersLine, textOf, readLines}
-use Rattle.writing.specs.Rooms.{Answer, noBytes, allBytes, fittedBytes}
+use Rattle.writing.specs.Lines.{behindNumber, numbersLine, textOf, IsText, readLines}
+use Rattle.writing.specs.Rooms.{Answer, noBytes, allBytes, PastStays, fittedBytes}
 use Rattle.writing.proofs.Decimals.{few-digits, twenty-digits}
-use Rattle.writing.proofs.ReadingBack.{read-text, written-reads-back}
-use Rattle.writing.proofs.Placing.{bytes-whole, bytes-short}
+use Rattle.writing.proofs.ReadingBack.{read-text, text-is, written-text}
+use Rattle.writing.proofs.Placing.{bytes-whole, bytes-short, fitted-past, none-past}
 use Rattle.machine.specs.Print.{eventNumbers, runLines, printOf, printRun}
 use Rattle.machine.specs.Promises.{PrintPromises}
 use Rattle.machine.proofs.WordTests.{says-yes}
@@ -102,25 +102,31 @@ module _ (image word : List ℕ) (valid : Valid image) (accepted : Accepted (aut
         events-many (automatonOf image) (finalOf image) (initialOf image) word,
       )
 
--- the print reads back as its lines, and so does what was written into a room
-pub print-reads-back : (A : Automaton) (word : List ℕ) → readLines (printOf A word) ≡ runLines A word
-unfolding printOf
-print-reads-back A word = read-text (runLines A word)
+-- what was written is the print, and behind it the room is as it was
+module _ (image word room : List ℕ) where
+  print-written : wordTest image word ≡ 1 → length (printOf (automatonOf image) word) ≤ length room
+      → textOf (runLines (automatonOf image) word) ≡ take (printRun image word room .written) (printRun image word room .room)
+  unfolding printOf
+  print-written e l =
+      sym (ap (λ (answer : Answer). take (answer .written) (answer .room)) (is-printed image word room e)
+      ∙ written-text 1 (runLines (automatonOf image) word) room l)
 
-pub print-written-reads-back : (image word room : List ℕ) → wordTest image word ≡ 1 → length (printOf (automatonOf image) word) ≤ length room
-    → readLines (take (printRun image word room .written) (printRun image word room .room)) ≡ runLines (automatonOf image) word
-unfolding printOf
-print-written-reads-back image word room e l =
-    ap (λ (answer : Answer). readLines (take (answer .written) (answer .room))) (is-printed image word room e)
-    ∙ written-reads-back 1 (runLines (automatonOf image) word) room l
+  print-past : PastStays room (printRun image word room)
+  unfolding printRun
+  print-past =
+      choose-either (PastStays room) (eqb (wordTest image word) 1)
+      (λ e. fitted-past 1 (printOf (automatonOf image) word) room) (λ e. none-past (wordTest image word) room)
 
 pub prints-kept : (image word room : List ℕ) → PrintPromises image word room (printRun image word room)
-unfolding allBytes
+unfolding allBytes runLines
 prints-kept image word room =
     record {
       word-test-first = not-printed image word room;
       too-short = λ e l. is-printed image word room e ∙ bytes-short 1 _ room l;
       success = λ e l. is-printed image word room e ∙ bytes-whole 1 _ room l;
+      reads-back = λ e l. ap readLines (sym (print-written image word room e l)) ∙ read-text (runLines (automatonOf image) word);
+      plain = λ e l. subst (IsText (runLines (automatonOf image) word)) (print-written image word room e l) (text-is (runLines (automatonOf image) word));
+      past-stays = print-past image word room;
       room-enough = λ e l.
           let yes = says-yes image word .0 e in
           ap (λ (answer : Answer). answer .number) (is-printed image word room e ∙ bytes-whole 1 _ room (omega (arith, print-length image word (yes .0) (yes .1))));

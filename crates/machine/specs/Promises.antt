@@ -16,15 +16,17 @@ use Rattle.automata.specs.WordTest.{wordTest}
 use Rattle.automata.specs.Picks.{eventsOf, FormRun, AllPick}
 use Rattle.automata.specs.Answers.{readImage, imageNumber, headAfter}
 use Rattle.writing.specs.Decimal.{digits, IsDecimal}
-use Rattle.writing.specs.Rooms.{Answer, noBytes, allBytes}
+use Rattle.writing.specs.Lines.{IsText, readLines}
+use Rattle.writing.specs.Rooms.{Answer, noBytes, allBytes, PastStays}
 use Rattle.machine.specs.Machine.{Blocker, Pending, Configuration, Given, Rooms, Outcome, goesOn, ends}
 use Rattle.machine.specs.Machine.{begin, advance, chain, callsOf, blocks, step, covers, blocked, passes}
 use Rattle.machine.specs.Meaning.{Closed, EnteredInOrder, WorksIn, EndedBy, makesBlock, takesHint, stepsMade, Raised}
 use Rattle.machine.specs.Why.{Reason, byBlocker, byStart, nothing, why, FirstCovering, LowestAbsent}
 use Rattle.machine.specs.Hitting.{cover, forbidden, withCases, toMeet, meets, best, picked, growthOf}
-use Rattle.machine.specs.Print.{printOf, printRun}
+use Rattle.machine.specs.Print.{eventNumbers, printOf, printRun}
 use Rattle.machine.specs.Lent.{BlockerRoom, Lent, EvenRooms, zeroed, blockersIn, column, eachTable}
-use Rattle.machine.specs.Runs.{Terms, RunRecord, Stage, systemOf, roomsOf, givenOf, shown, alone, checkRun, runOf}
+use Rattle.machine.specs.Runs.{Terms, RunRecord, Stage, fiveNumbers, systemOf, roomsOf, givenOf, shown, alone, checkRun, runOf}
+use Rattle.machine.specs.Program.{linesOf}
 use Rattle.machine.specs.Records.{configurationOf, after, Called, answering, beginOf, checkStep, stepOf, stepsFrom, reachedBy, unrefused, givenBy}
 
 -- a symbol of the word is k or above
@@ -334,6 +336,14 @@ pub record PrintPromises (image word room : List ℕ) (answer : Answer) : Type 0
   -- 01: "on success .. (for the print of a word's run, 1) with that length, the bytes past it staying"
   pub success : wordTest image word ≡ 1 → length (printOf (automatonOf image) word) ≤ length room
       → answer ≡ allBytes 1 (printOf (automatonOf image) word) room
+  -- a reader of what was written gives back I, and the symbol and the case of each event; nothing but their decimals, one space between, and a newline
+  -- behind each line stands there
+  pub reads-back : wordTest image word ≡ 1 → length (printOf (automatonOf image) word) ≤ length room
+      → readLines (take (answer .written) (answer .room)) ≡ (initialOf image ∷ []) ∷ map eventNumbers (eventsOf (automatonOf image) word)
+  pub plain : wordTest image word ≡ 1 → length (printOf (automatonOf image) word) ≤ length room
+      → IsText ((initialOf image ∷ []) ∷ map eventNumbers (eventsOf (automatonOf image) word)) (take (answer .written) (answer .room))
+  -- "the bytes past it staying", whatever the number
+  pub past-stays : PastStays room answer
   -- (what a caller wants to know) the first line has at most 21 bytes and each other at most 24, so a room of so many is long enough
   pub room-enough : wordTest image word ≡ 1 → 21 + 24 * length word ≤ length room → answer .number ≡ 1
   -- "Show that the lines form a run by the definition and end in a final case": from I, into F
@@ -341,6 +351,17 @@ pub record PrintPromises (image word room : List ℕ) (answer : Answer) : Type 0
       → FormRun (automatonOf image) (finalOf image) (initialOf image) word (eventsOf (automatonOf image) word)
   -- "each state picks the first row in image order whose case lies inside the backward set of what remains of the word": there is one
   pub all-pick : Valid image → Accepted (automatonOf image) word → AllPick (automatonOf image) (finalOf image) (initialOf image) word
+
+-- 01: the promises of the program's two lines, of whatever stands in record and tables
+pub record LinesPromises (at : Stage) (bytes : List ℕ) : Type 0 where
+  pub second : List ℕ
+  -- "numbers are decimal with one space between, and each line ends in a newline": line 1 has the five numbers
+  pub plain : IsText (fiveNumbers (at .run) ∷ second ∷ []) bytes
+  pub reads-back : readLines bytes ≡ fiveNumbers (at .run) ∷ second ∷ []
+  -- "Line 2: on 0 the frame's masks in table order, on 1 the word's symbols ..; else empty"
+  pub frame : at .run .answer ≡ 0 → second ≡ take (at .run .held) (at .tables .room .masks)
+  pub word : at .run .answer ≡ 1 → second ≡ take (at .run .level) (at .tables .word .symbols)
+  pub else-empty : 1 < at .run .answer → second ≡ []
 
 -- two runs that reached a verdict: the same one, and words of the same length
 pub record Agreed (r s : Stage) : Type 0 where
@@ -438,6 +459,8 @@ pub record Promises : Type 0 where
       → WalkPromises (statesOf image) (rowsOf image s) X (rowsWalked (statesOf image) (rowsOf image s) X)
   -- 02, 1: the print of a word's run, for every input
   pub prints : (image word room : List ℕ) → PrintPromises image word room (printRun image word room)
+  -- 01: the program's two lines
+  pub prints-lines : (at : Stage) → LinesPromises at (linesOf at)
   -- "Decimals are written digit by digit, most significant first": read back they are the number, and no 0 stands in front; 0 is one digit
   pub decimals : (number : ℕ) → IsDecimal number (digits number)
   pub decimal-zero : digits 0 ≡ 48 ∷ []

@@ -1,15 +1,15 @@
 -- The laws of bytes in a room: in two parts, one byte, a number's digits; and the answer that bytes make which fit, or do not. Assumes nothing.
 use Prim.Native.Nat.{ℕ, suc, _+_, _/_, _%_, _^_, _≤_, _<_}
-use mathlib.Core.Path.{_≡_, sym, ap, _∙_}
+use mathlib.Core.Path.{_≡_, refl, sym, ap, _∙_}
 use mathlib.Core.List.{List, [], _∷_, _++_}
 use native.Mathlib.Nat.{zero-add, add-zero, add-suc, suc-add}
 use native.Mathlib.Omega.{arith}
-use borrow.Author.Tests.{le-leb, lt-leb}
-use lib.ListN.{length, drop, set}
-use lib.Seq.{sets, sets-eq, set-out}
-use Rattle.lists.proofs.Tests.{choose-true, choose-false}
+use borrow.Author.Tests.{le-leb, lt-leb, leb-true}
+use lib.ListN.{length, drop, set, length-append, length-drop}
+use lib.Seq.{sets, sets-eq, set-out, drop-append-seam}
+use Rattle.lists.proofs.Tests.{choose-true, choose-false, choose-either}
 use Rattle.writing.specs.Decimal.{digits}
-use Rattle.writing.specs.Rooms.{noBytes, allBytes, fittedBytes}
+use Rattle.writing.specs.Rooms.{noBytes, allBytes, PastStays, fittedBytes}
 use Rattle.writing.proofs.Decimals.{digits-one, digits-more, length-digits-one, length-digits-more, twenty-digits}
 
 -- of bytes in two parts the second stands from the place behind the first
@@ -67,3 +67,18 @@ bytes-fit success bytes room after h e =
     ap (λ (l : List ℕ). record { number = success; written = length bytes; room = l })
     (e ∙ sets-eq bytes room 0 (omega arith) ∙ ap (λ (k : ℕ). bytes ++ drop k room) (zero-add (length bytes)))
     ∙ sym (bytes-whole success bytes room h)
+
+-- behind what was written the room is as it was
+pub none-past : (number : ℕ) (room : List ℕ) → PastStays room (noBytes number room)
+unfolding noBytes
+none-past number room = record { stays = refl; as-long = refl }
+
+pub fitted-past : (success : ℕ) (bytes room : List ℕ) → PastStays room (fittedBytes success bytes room)
+unfolding fittedBytes allBytes
+fitted-past success bytes room = choose-either (PastStays room) _ (λ e. whole (leb-true _ _ e)) (λ e. none-past 35 room)
+  where
+    whole : length bytes ≤ length room → PastStays room (allBytes success bytes room)
+    whole h = record {
+      stays = drop-append-seam bytes (drop (length bytes) room);
+      as-long = omega (arith, length-append bytes (drop (length bytes) room), length-drop (length bytes) room);
+    }

@@ -10,6 +10,7 @@ use Rattle.lists.specs.Lists.{here, there, Each}
 use Rattle.lists.proofs.Tests.{choose-true, choose-false}
 use Rattle.writing.specs.Decimal.{digits, readFrom}
 use Rattle.writing.specs.Lines.{space, newline, behindNumber, numbersLine, textOf, withNumber, readOn, readLines}
+use Rattle.writing.specs.Lines.{IsLine, noNumber, lastNumber, oneBefore, IsText, noLine, lineBefore}
 use Rattle.writing.specs.Rooms.{Answer, allBytes, fittedBytes}
 use Rattle.writing.proofs.Decimals.{digits-decimal}
 use Rattle.writing.proofs.Placing.{bytes-whole}
@@ -76,11 +77,22 @@ unfolding textOf readLines readOn
 read-text [] = refl
 read-text (numbers ∷ lines) = read-line numbers (textOf lines) ∙ ap (λ (rest : List (List ℕ)). numbers ∷ rest) (read-text lines)
 
--- and so does what was written of them into a room that is long enough
-pub written-reads-back : (success : ℕ) (lines : List (List ℕ)) (room : List ℕ) → length (textOf lines) ≤ length room
-    → readLines (take (fittedBytes success (textOf lines) room .written) (fittedBytes success (textOf lines) room .room)) ≡ lines
-unfolding allBytes
-written-reads-back success lines room h =
-    ap (λ (answer : Answer). readLines (take (answer .written) (answer .room))) (bytes-whole success (textOf lines) room h)
-    ∙ ap readLines (take-append-seam (textOf lines) (drop (length (textOf lines)) room))
-    ∙ read-text lines
+-- what is made of lines is plain text
+line-is : (numbers : List ℕ) → IsLine numbers (numbersLine numbers)
+unfolding numbersLine behindNumber
+line-is [] = noNumber
+line-is (number ∷ []) = lastNumber (digits-decimal number)
+line-is (number ∷ next ∷ numbers) = oneBefore (digits-decimal number) (line-is (next ∷ numbers))
+
+pub text-is : (lines : List (List ℕ)) → IsText lines (textOf lines)
+unfolding textOf
+text-is [] = noLine
+text-is (numbers ∷ lines) = lineBefore (line-is numbers) (text-is lines)
+
+-- and so is what was written of them into a room that is long enough
+module _ (success : ℕ) (lines : List (List ℕ)) (room : List ℕ) (enough : length (textOf lines) ≤ length room) where
+  pub written-text : take (fittedBytes success (textOf lines) room .written) (fittedBytes success (textOf lines) room .room) ≡ textOf lines
+  unfolding allBytes
+  written-text =
+      ap (λ (answer : Answer). take (answer .written) (answer .room)) (bytes-whole success (textOf lines) room enough)
+      ∙ take-append-seam (textOf lines) (drop (length (textOf lines)) room)

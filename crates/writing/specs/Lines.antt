@@ -4,7 +4,7 @@ use Prim.Native.Nat.{ℕ}
 use mathlib.Core.List.{List, [], _∷_, _++_}
 use lib.Dec.{eqb}
 use Rattle.lists.specs.Tests.{choose}
-use Rattle.writing.specs.Decimal.{digits, readFrom}
+use Rattle.writing.specs.Decimal.{digits, readFrom, IsDecimal}
 
 abbrev pub space : ℕ
 space = 32
@@ -26,6 +26,17 @@ numbersLine (number ∷ numbers) = digits number ++ behindNumber numbers
 unfoldable pub textOf : List (List ℕ) → List ℕ
 textOf [] = []
 textOf (numbers ∷ lines) = numbersLine numbers ++ textOf lines
+
+-- The same said of bytes: a line is the decimals of its numbers with one space between, and ends in a newline.
+pub data IsLine : List ℕ → List ℕ → Type 0 where
+  noNumber : IsLine [] (newline ∷ [])
+  lastNumber : {number : ℕ} {characters : List ℕ} → IsDecimal number characters → IsLine (number ∷ []) (characters ++ (newline ∷ []))
+  oneBefore : {number next : ℕ} {numbers characters bytes : List ℕ} → IsDecimal number characters → IsLine (next ∷ numbers) bytes
+      → IsLine (number ∷ next ∷ numbers) (characters ++ (space ∷ bytes))
+
+pub data IsText : List (List ℕ) → List ℕ → Type 0 where
+  noLine : IsText [] []
+  lineBefore : {numbers bytes more : List ℕ} {lines : List (List ℕ)} → IsLine numbers bytes → IsText lines more → IsText (numbers ∷ lines) (bytes ++ more)
 
 -- the numbers that were read, and the one that the characters behind them say; no characters say none
 unfoldable pub withNumber : List ℕ → List ℕ → List ℕ

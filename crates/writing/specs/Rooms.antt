@@ -1,6 +1,7 @@
 -- Answers with bytes: 01's "Where a later paper asks for bytes in a lent room, the answer is a number and the length written". Assumes nothing: these are
 -- definitions.
 use Prim.Native.Nat.{ℕ}
+use mathlib.Core.Path.{_≡_}
 use mathlib.Core.List.{List, _++_}
 use lib.Dec.{leb}
 use lib.ListN.{length, drop}
@@ -24,6 +25,11 @@ noBytes number room = record { number = number; written = 0; room = room }
 -- "on success .. with that length, the bytes past it staying"
 unfoldable pub allBytes : ℕ → List ℕ → List ℕ → Answer
 allBytes success bytes room = record { number = success; written = length bytes; room = bytes ++ drop (length bytes) room }
+
+-- "the bytes past it staying", whatever the number: nothing behind the length written has changed, and the room is as long as it was
+pub record PastStays (room : List ℕ) (answer : Answer) : Type 0 where
+  pub stays : drop (answer .written) (answer .room) ≡ drop (answer .written) room
+  pub as-long : length (answer .room) ≡ length room
 
 -- 02: "a room too short 35 (no space)"
 unfoldable pub fittedBytes : ℕ → List ℕ → List ℕ → Answer
