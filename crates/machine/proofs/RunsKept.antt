@@ -182,7 +182,24 @@ module _ (image : List ℕ) (lent : Lent) (terms : Terms) where
   unfolding checkRun
   of-valid valid = ap (checkTerms lent (terms .hints) (terms .edition) (terms .way)) valid
 
-  -- which of the four checks gives 30, and which 31
+  -- uneven tables are refused under 30, and even ones that are too long under 31
+  gives-odd : (EvenRooms lent → ⊥) → checkTerms lent (terms .hints) (terms .edition) (terms .way) 0 ≡ 30
+  unfolding checkTerms check
+  gives-odd f = at (oddRooms lent) refl
+    where
+      at : (b : Bool) → oddRooms lent ≡ b → checkTerms lent (terms .hints) (terms .edition) (terms .way) 0 ≡ 30
+      at true e = rw e
+      at false e = absurd (f (even-test lent e))
+
+  gives-oversize : EvenRooms lent → (FewPlaces lent (terms .hints) → ⊥) → checkTerms lent (terms .hints) (terms .edition) (terms .way) 0 ≡ 31
+  unfolding checkTerms check
+  gives-oversize even f = at (oversize lent (terms .hints)) refl (test-even lent even)
+    where
+      at : (b : Bool) → oversize lent (terms .hints) ≡ b → oddRooms lent ≡ false → checkTerms lent (terms .hints) (terms .edition) (terms .way) 0 ≡ 31
+      at true e odd = rw (odd, e)
+      at false e odd = absurd (f (few-test lent (terms .hints) e))
+
+  -- and no others
   gives-30 : checkTerms lent (terms .hints) (terms .edition) (terms .way) 0 ≡ 30 → oddRooms lent ≡ true
   unfolding checkTerms check
   gives-30 = at (oddRooms lent) (oversize lent (terms .hints)) (unknownEdition (terms .edition)) (unknownWay (terms .way))
@@ -205,37 +222,23 @@ module _ (image : List ℕ) (lent : Lent) (terms : Terms) where
       at false false false true e = absurd (omega arith)
       at false false false false e = absurd (omega arith)
 
+  clash : {b : Bool} → b ≡ true → b ≡ false → ⊥
+  clash t f = fails f (holds t)
+
   pub odd-rooms : (checkRun image lent terms ≡ 30) ↔ (Valid image × (EvenRooms lent → ⊥))
-  unfolding checkTerms check
   odd-rooms = (
     λ e. let h = after-image (omega arith) e in (h .0, λ even. clash (gives-30 (h .1)) (test-even lent even)),
-    λ h. of-valid (h .0) ∙ at (oddRooms lent) refl (h .1),
+    λ h. of-valid (h .0) ∙ gives-odd (h .1),
   )
-    where
-      clash : {b : Bool} → b ≡ true → b ≡ false → ⊥
-      clash t f = fails f (holds t)
-
-      at : (b : Bool) → oddRooms lent ≡ b → (EvenRooms lent → ⊥) → checkTerms lent (terms .hints) (terms .edition) (terms .way) 0 ≡ 30
-      at true e f = rw e
-      at false e f = absurd (f (even-test lent e))
 
   pub oversize-rooms : (checkRun image lent terms ≡ 31) ↔ (Valid image × EvenRooms lent × (FewPlaces lent (terms .hints) → ⊥))
-  unfolding checkTerms check
   oversize-rooms = (
     λ e.
         let h = after-image (omega arith) e in
         let given = gives-31 (h .1) in
         (h .0, even-test lent (given .0), λ few. clash (given .1) (test-few lent (terms .hints) few)),
-    λ h. of-valid (h .0) ∙ at (oversize lent (terms .hints)) refl (test-even lent (h .1)) (h .2),
+    λ h. of-valid (h .0) ∙ gives-oversize (h .1) (h .2),
   )
-    where
-      clash : {b : Bool} → b ≡ true → b ≡ false → ⊥
-      clash t f = fails f (holds t)
-
-      at : (b : Bool) → oversize lent (terms .hints) ≡ b → oddRooms lent ≡ false → (FewPlaces lent (terms .hints) → ⊥)
-          → checkTerms lent (terms .hints) (terms .edition) (terms .way) 0 ≡ 31
-      at true e odd f = rw (odd, e)
-      at false e odd f = absurd (f (few-test lent (terms .hints) e))
 
 module _ (image : List ℕ) (lent : Lent) (terms : Terms) where
   -- a run is refused, or it is the machine's
