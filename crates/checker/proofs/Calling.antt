@@ -128,7 +128,7 @@ module _ (room : BlockerRoom) (word : WordRoom) (hints : List ℕ) (edition way 
   rooms = rooms-checked room word hints edition way number passed none
 
   -- the record can be read as a run
-  pub fits-run : (before .answer ≤ 6) × (before .level ≤ 65536)
+  pub fits-run : (before .answer ≤ 6) × (before .level .0 ≤ 65536)
   fits-run = (bounds .answer, omega (arith, bounds .level, rooms .few-places))
 
   -- which a step can be made of

@@ -14,7 +14,7 @@ abbrev pub recordAs : Record → RunRecord
 recordAs lent = record {
   answer = lent .answer;
   steps = lent .steps;
-  level = lent .level;
+  level = lent .level .0;
   isOpen = lent .opened;
   held = lent .held;
   pending = lent .pending;

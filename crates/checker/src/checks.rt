@@ -68,10 +68,10 @@ pub(crate) fn broken(blockers: usize, word: usize, before: Record) -> bool
     if (blockers as u64) < before.held {
         return true;
     }
-    if (word as u64) < before.level {
+    if (word as u64) < before.level.0 {
         return true;
     }
-    if before.level < before.pending {
+    if before.level.0 < before.pending {
         return true;
     }
     if before.steps < before.blocks {

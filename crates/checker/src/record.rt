@@ -61,7 +61,7 @@ impl Run {
         Record {
             answer: self.answer as u64,
             steps: self.steps,
-            level: level.0 as u64,
+            level: KeptLevel(level.0 as u64),
             opened: self.opened,
             held: self.held as u64,
             pending: self.pending as u64,
@@ -71,11 +71,14 @@ impl Run {
     }
 }
 
+// A level as the owner of a record keeps it, which may be any number.
+pub struct KeptLevel(pub u64);
+
 // The run's record between two calls. It belongs to the caller, so each number may be any.
 pub struct Record {
     pub answer: u64,
     pub steps: u64,
-    pub level: u64,
+    pub level: KeptLevel,
     pub opened: bool,
     pub held: u64,
     pub pending: u64,
@@ -86,13 +89,14 @@ pub struct Record {
 impl Record {
     // The run that a record stands for, where its answer and its level have passed the check.
     pub(crate) fn to_run(self) -> Run
-        requires { ⌜ (self .answer ≤ 6) × (self .level ≤ 65536) ⌝ }
+        requires { ⌜ (self .answer ≤ 6) × (self .level .0 ≤ 65536) ⌝ }
         ensures { λ r. ⌜ recordIn r ≡ recordAs self ⌝ }
     {
+        let level = self.level;
         Run {
             answer: self.answer as u8,
             steps: self.steps,
-            level: Level(self.level as u32),
+            level: Level(level.0 as u32),
             opened: self.opened,
             held: self.held as usize,
             pending: self.pending as usize,

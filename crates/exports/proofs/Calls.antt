@@ -19,7 +19,7 @@ module _ (left : Record) where
   -- the eight numbers, with this one for open
   abbrev with-open : ℕ → List ℕ
   with-open open-number =
-      left .answer ∷ left .steps ∷ left .level ∷ open-number ∷ left .held ∷ left .pending ∷ left .blocks ∷ left .accepted ∷ []
+      left .answer ∷ left .steps ∷ left .level .0 ∷ open-number ∷ left .held ∷ left .pending ∷ left .blocks ∷ left .accepted ∷ []
 
   pub numbers-open : left .opened ≡ true → with-open 1 ≡ numbersOf (recordAs left)
   unfolding numbersOf choose

@@ -2,6 +2,7 @@
 use automata::image::Image;
 use blockers::Level;
 use blockers::reasons::Reason;
+use checker::record::KeptLevel;
 use checker::record::Record;
 use checker::step::Called;
 ghost use mathlib.Core.Path.{_≡_};
@@ -111,7 +112,7 @@ fn numbers_of(left: Record) -> [u64; 8]
     [
         left.answer,
         left.steps,
-        left.level,
+        left.level.0,
         open,
         left.held,
         left.pending,
@@ -127,7 +128,7 @@ fn record_from(numbers: [u64; 8]) -> Record
     Record {
         answer: numbers[0],
         steps: numbers[1],
-        level: numbers[2],
+        level: KeptLevel(numbers[2]),
         opened: numbers[3] != 0,
         held: numbers[4],
         pending: numbers[5],
