@@ -4,7 +4,6 @@ use blockers::Level;
 use blockers::reasons::Reason;
 use checker::record::KeptLevel;
 use checker::record::Record;
-use checker::step::Called;
 ghost use mathlib.Core.Path.{_≡_};
 ghost use Rattle.automata.specs.Answers.{readImage, imageNumber, headAfter};
 ghost use Rattle.automata.specs.WordTest.{wordTest};
@@ -138,16 +137,16 @@ fn record_from(numbers: [u64; 8]) -> Record
 }
 
 // The eight numbers after a step: as they were, unless it was made.
-fn numbers_after(before: [u64; 8], called: Called) -> [u64; 8]
-    ensures { λ r. ⌜ r ≡ numbersAfter before (called .number) (recordAs (called .left)) ⌝ }
+fn numbers_after(before: [u64; 8], number: u64, left: Record) -> [u64; 8]
+    ensures { λ r. ⌜ r ≡ numbersAfter before number (recordAs left) ⌝ }
 {
     if before[0] != 6 {
         return before;
     }
-    if 20 <= called.number {
+    if 20 <= number {
         return before;
     }
-    numbers_of(called.left)
+    numbers_of(left)
 }
 
 // Begins a run, which afa_step then makes step by step: the record's answer, with the record in `numbers`. A refused begin leaves its tables as they were, and
@@ -203,7 +202,8 @@ pub extern "C" fn afa_step(
         (record { tables = lentBefore masks levels entered cases symbols; run = recordFrom (now (numbers .entry)) })) ⌝ }
 {
     let before = *numbers;
-    let called = checker::step::step(
+    let mut kept = record_from(before);
+    let number = checker::step::step_on(
         image,
         masks,
         levels,
@@ -214,10 +214,10 @@ pub extern "C" fn afa_step(
         allowance,
         edition,
         way,
-        record_from(before),
+        &mut kept,
     );
-    *numbers = numbers_after(before, called);
-    called.number
+    *numbers = numbers_after(before, number, kept);
+    number
 }
 
 // Why the case is blocked at the level: 1 with the place and the level of the first covering blocker in `found`, or 2 with the lowest initial state absent
