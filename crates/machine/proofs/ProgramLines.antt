@@ -61,10 +61,10 @@ second-few zero frame word = omega arith
 second-few (suc zero) frame word = omega arith
 second-few (suc (suc number)) frame word = omega arith
 
--- numbers of 64 bits have at most 20 digits and a byte behind them: five on the first line, on the second none or one for each place
+-- numbers of 64 bits have at most 20 digits and a space, and each line a newline: five stand on the first line, on the second at most one for each place
 pub two-lines-short : (run : RunRecord) (masks symbols : List ℕ) (places : ℕ) → Each (λ number. number < 2 ^ 64) (fiveNumbers run)
     → Each (λ number. number < 2 ^ 64) masks → Each (λ number. number < 2 ^ 64) symbols → length masks ≤ places → length symbols ≤ places
-    → length (textOf (twoLines run masks symbols)) ≤ 106 + 21 * places
+    → length (textOf (twoLines run masks symbols)) ≤ 107 + 21 * places
 unfolding textOf twoLines fiveNumbers
 two-lines-short run masks symbols places five m s few-masks few-symbols =
     let frame = take (run .held) masks in

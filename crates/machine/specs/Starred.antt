@@ -1,11 +1,12 @@
 -- The lines of 01's "Models and what they give" that are marked *, as one list, with 02's third number of a blocker: "2 for A, 2 for C", D in
--- edition 2, and C by way 1. Assumes nothing: these are definitions.
+-- edition 2, C by way 1, and what the program prints on C. Assumes nothing: these are definitions.
 use Prim.Native.Nat.{ℕ}
 use mathlib.Core.Path.{_≡_}
 use mathlib.Core.List.{List, [], _∷_}
 use Rattle.automata.specs.WordTest.{wordTest}
 use Rattle.machine.specs.Lent.{BlockerRoom, roomOf, wordRoomOf, Lent}
 use Rattle.machine.specs.Runs.{Terms, Stage, fiveNumbers, runOf}
+use Rattle.machine.specs.Program.{programPrints}
 
 -- the bytes of small numbers in front of more bytes: 8 bytes, a pair, a row
 abbrev eight : ℕ → List ℕ → List ℕ
@@ -41,10 +42,11 @@ pub record Gives : Type 0 where
 abbrev pub givenBack : Stage → Gives
 givenBack left = record { numbers = fiveNumbers (left .run); tables = left .tables }
 
--- a run with what it is lent and what it gives, or a word test with its number
+-- a run with what it is lent and what it gives, a word test with its number, or the program's output
 pub data Line : Type 0 where
   run : (image : List ℕ) (lent : Lent) (terms : Terms) → Gives → Line
   test : (image word : List ℕ) → ℕ → Line
+  output : (image bytes : List ℕ) → Line
 
 -- tables that are lent, with other numbers in them
 abbrev lent : List ℕ → List ℕ → Lent
@@ -105,12 +107,15 @@ starred =
     ∷ test C (1 ∷ 0 ∷ []) 0
     ∷ test C [] 0
     ∷ test C (2 ∷ []) 32
+    -- "For image C below the whole output is": 1 6 2 1 0, and on the next line 0 1
+    ∷ output C (49 ∷ 32 ∷ 54 ∷ 32 ∷ 50 ∷ 32 ∷ 49 ∷ 32 ∷ 48 ∷ 10 ∷ 48 ∷ 32 ∷ 49 ∷ 10 ∷ [])
     ∷ []
 
 -- the line says what the definitions give
 unfoldable pub Right : Line → Type 0
 Right (run image tables given result) = givenBack (runOf image tables given) ≡ result
 Right (test image word number) = wordTest image word ≡ number
+Right (output image bytes) = programPrints image ≡ bytes
 
 -- every line does
 unfoldable pub AllRight : List Line → Type 0

@@ -32,7 +32,8 @@ module _ (image word : List ℕ) (head : Head) (eh : head ≡ headOf image) (lim
       → Puts (printOf (automatonOf image) word) 0 limit end before after
   unfolding printOf runLines textOf eventLines eventsOf
   lines-put end p =
-      subst (λ (h : Head). Puts (numbersLine (h .initial ∷ []) ++ eventLines (eventsOver (automatonOf image) (h .finals) (h .initial) word)) 0 limit end before after) eh
+      subst (λ (h : Head).
+      Puts (numbersLine (h .initial ∷ []) ++ eventLines (eventsOver (automatonOf image) (h .finals) (h .initial) word)) 0 limit end before after) eh
       (puts-joined {a = numbersLine (head .initial ∷ [])} (record { counted = omega (arith, es); written = λ h. eb }) p)
 
   pub run-put : (end case : ℕ) → PutsEvents (eventsOver (automatonOf image) (head .finals) (head .initial) word) (head .initial) start limit end case between after

@@ -1,5 +1,5 @@
 -- Bytes put one after the other up to a limit, a line as it is written number by number, and how long it is. Assumes nothing.
-use Prim.Native.Nat.{ℕ, zero, suc, _+_, _*_, _^_, _≤_, _<_, max}
+use Prim.Native.Nat.{ℕ, zero, suc, _+_, _*_, _^_, _≤_, _<_}
 use mathlib.Core.Path.{_≡_, refl, sym, ap, _∙_}
 use mathlib.Core.List.{List, [], _∷_, _++_}
 use native.Mathlib.Numerals.{add-one}
@@ -79,13 +79,14 @@ line-none (suc place) = refl
 -- the loop over the numbers of a line, before place i: what is to come brings place and bytes to where the line brings them
 pub record Lining (numbers : List ℕ) (start : ℕ) (before room : List ℕ) (end i : ℕ) : Type 0 where
   pub bound : i ≤ length numbers
+  pub near : end ≤ start + 21 * i
   pub long : length room ≡ length before
   pub counts : end + length (lineFrom i (drop i numbers)) ≡ start + length (numbersLine numbers)
   pub writes : sets room end (lineFrom i (drop i numbers)) ≡ sets before start (numbersLine numbers)
 
 pub lining-starts : {numbers : List ℕ} {start : ℕ} {room : List ℕ} → Lining numbers start room room start 0
 unfolding lineFrom
-lining-starts = record { bound = omega arith; long = refl; counts = refl; writes = refl }
+lining-starts = record { bound = omega arith; near = omega arith; long = refl; counts = refl; writes = refl }
 
 module _ {numbers : List ℕ} {start : ℕ} {before room : List ℕ} {end i : ℕ} (p : Lining numbers start before room end i) where
   -- what is to come: this number, and what is behind it
@@ -94,18 +95,22 @@ module _ {numbers : List ℕ} {start : ℕ} {before room : List ℕ} {end i : �
       ap (lineFrom i) (drop-first numbers i l) ∙ line-more i (getD numbers i 0) (drop (i + 1) numbers)
       ∙ ap (λ (k : ℕ). nextNumber i (getD numbers i 0) ++ lineFrom k (drop (i + 1) numbers)) (sym (add-one i))
 
-  pub lining-next : (after : List ℕ) (next : ℕ) → i < length numbers → next ≡ end + length (nextNumber i (getD numbers i 0))
+  pub lining-next : (after : List ℕ) (next : ℕ) → i < length numbers → next ≡ end + length (nextNumber i (getD numbers i 0)) → next ≤ end + 21
       → after ≡ sets room end (nextNumber i (getD numbers i 0)) → length after ≡ length room → Lining numbers start before after next (i + 1)
-  lining-next after next l place bytes kept =
+  lining-next after next l place close bytes kept =
       let number = nextNumber i (getD numbers i 0) in
       let rest = lineFrom (i + 1) (drop (i + 1) numbers) in
       let split : length (lineFrom i (drop i numbers)) ≡ length number + length rest = ap length (comes-more l) ∙ length-append number rest in
       record {
         bound = omega arith;
+        near = omega (arith, p .near);
         long = kept ∙ p .long;
         counts = omega (arith, p .counts, split, place);
         writes = written-behind room after _ number rest end next bytes place refl ∙ ap (sets room end) (sym (comes-more l)) ∙ p .writes;
       }
+
+  pub lining-near : {last : ℕ} → last ≤ end + 1 → last ≤ start + 21 * length numbers + 1
+  lining-near l = omega (arith, p .bound, p .near)
 
   pub lining-passed : {limit : ℕ} → limit < end → Puts (numbersLine numbers) start limit end before room
   lining-passed l = record { counted = omega (arith, p .counts); written = λ h. absurd (omega arith) }
@@ -137,7 +142,7 @@ module _ (success : ℕ) (bytes room : List ℕ) (size : ℕ) (before after : Li
       long : size ≡ length bytes
       long = omega (arith, counted .counted)
 
--- how long a line of numbers of 64 bits is: each has at most 20 digits and a byte behind them, and a line without numbers is one byte
+-- how long a line of numbers of 64 bits is: each has at most 20 digits and a space, and the line a newline
 behind-short : (numbers : List ℕ) → Each (λ number. number < 2 ^ 64) numbers → length (behindNumber numbers) ≤ 21 * length numbers + 1
 unfolding behindNumber
 behind-short [] f = omega arith
@@ -149,7 +154,7 @@ behind-short (number ∷ numbers) f =
       behind-short numbers (λ x m. f x (there m)),
     )
 
-pub line-short : (numbers : List ℕ) → Each (λ number. number < 2 ^ 64) numbers → length (numbersLine numbers) ≤ max 1 (21 * length numbers)
+pub line-short : (numbers : List ℕ) → Each (λ number. number < 2 ^ 64) numbers → length (numbersLine numbers) ≤ 21 * length numbers + 1
 unfolding numbersLine
 line-short [] f = omega arith
 line-short (number ∷ numbers) f =

@@ -3,6 +3,7 @@ use Prim.Native.Nat.{ℕ, suc, _+_, _/_, _%_, _^_, _≤_, _<_}
 use mathlib.Core.Path.{_≡_, refl, sym, ap, _∙_}
 use mathlib.Core.List.{List, [], _∷_, _++_}
 use native.Mathlib.Nat.{zero-add, add-zero, add-suc, suc-add}
+use native.Mathlib.Decide.{decLe}
 use native.Mathlib.Omega.{arith}
 use borrow.Author.Tests.{le-leb, lt-leb, leb-true}
 use lib.ListN.{length, drop, set, length-append, length-drop}
@@ -82,3 +83,12 @@ fitted-past success bytes room = choose-either (PastStays room) _ (λ e. whole (
       stays = drop-append-seam bytes (drop (length bytes) room);
       as-long = omega (arith, length-append bytes (drop (length bytes) room), length-drop (length bytes) room);
     }
+
+-- no more is written than there is room for
+pub written-fits : (success : ℕ) (bytes room : List ℕ) → fittedBytes success bytes room .written ≤ length room
+unfolding allBytes noBytes
+written-fits success bytes room = at (decLe (length bytes) (length room))
+  where
+    at : Dec (length bytes ≤ length room) → fittedBytes success bytes room .written ≤ length room
+    at (yes l) = rw (bytes-whole success bytes room l) l
+    at (no l) = rw (bytes-short success bytes room (omega arith)) (omega arith)

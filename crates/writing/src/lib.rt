@@ -2,7 +2,7 @@
 // not written, so a room without places serves to count.
 ghost use mathlib.Core.Path.{_≡_};
 ghost use mathlib.Core.List.{[], _∷_};
-ghost use Prim.Native.Nat.{_+_, _^_, _≤_, _<_};
+ghost use Prim.Native.Nat.{_+_, _*_, _^_, _≤_, _<_};
 ghost use lib.ListN.{length};
 ghost use lib.Seq.{sets};
 ghost use Rattle.writing.specs.Decimal.{digits};
@@ -44,6 +44,7 @@ pub fn put_number(room: &mut [u8], at: usize, number: u64) -> usize
 fn put_next(room: &mut [u8], at: usize, place: usize, number: u64) -> usize
     requires { ⌜ at < 2 ^ 63 ⌝ }
     ensures place { λ r. ⌜ r ≡ at + length (nextNumber place number) ⌝ }
+    ensures near { λ r. ⌜ r ≤ at + 21 ⌝ }
     ensures bytes { λ r. ⌜ now (room .exit) ≡ sets (now (room .entry)) at (nextNumber place number) ⌝ }
 {
     if place == 0 {
@@ -57,6 +58,7 @@ fn put_next(room: &mut [u8], at: usize, place: usize, number: u64) -> usize
 fn put_next_byte(room: &mut [u8], at: usize, place: usize, number: u8) -> usize
     requires { ⌜ at < 2 ^ 63 ⌝ }
     ensures place { λ r. ⌜ r ≡ at + length (nextNumber place number) ⌝ }
+    ensures near { λ r. ⌜ r ≤ at + 21 ⌝ }
     ensures bytes { λ r. ⌜ now (room .exit) ≡ sets (now (room .entry)) at (nextNumber place number) ⌝ }
 {
     put_next(room, at, place, number as u64)
@@ -65,7 +67,8 @@ fn put_next_byte(room: &mut [u8], at: usize, place: usize, number: u8) -> usize
 // A newline, unless the limit is passed; answers the place behind it.
 fn put_newline(room: &mut [u8], at: usize, limit: usize) -> usize
     requires { ⌜ limit < 2 ^ 63 ⌝ }
-    ensures { λ r. ⌜ Puts (newline ∷ []) at limit r (now (room .entry)) (now (room .exit)) ⌝ }
+    ensures near { λ r. ⌜ r ≤ at + 1 ⌝ }
+    ensures bytes { λ r. ⌜ Puts (newline ∷ []) at limit r (now (room .entry)) (now (room .exit)) ⌝ }
 {
     if limit < at {
         return at;
@@ -74,10 +77,12 @@ fn put_newline(room: &mut [u8], at: usize, limit: usize) -> usize
     at + 1
 }
 
-// The numbers in decimal with one space between, and a newline, from a place on; answers the place behind them. It stops once the limit is passed.
+// The numbers in decimal with one space between, and a newline, from a place on; answers the place behind them, at most 21 bytes on for each number and one
+// more. It stops once the limit is passed.
 pub fn put_line(room: &mut [u8], start: usize, limit: usize, numbers: &[u64]) -> usize
     requires { ⌜ limit < 2 ^ 63 ⌝ }
-    ensures { λ r. ⌜ Puts (numbersLine (now (numbers .entry))) start limit r (now (room .entry)) (now (room .exit)) ⌝ }
+    ensures near { λ r. ⌜ r ≤ start + 21 * length (now (numbers .entry)) + 1 ⌝ }
+    ensures bytes { λ r. ⌜ Puts (numbersLine (now (numbers .entry))) start limit r (now (room .entry)) (now (room .exit)) ⌝ }
 {
     let mut end = start;
     let mut i: usize = 0;
@@ -94,7 +99,8 @@ pub fn put_line(room: &mut [u8], start: usize, limit: usize, numbers: &[u64]) ->
 // The same of numbers that are bytes.
 pub fn put_line_of_bytes(room: &mut [u8], start: usize, limit: usize, numbers: &[u8]) -> usize
     requires { ⌜ limit < 2 ^ 63 ⌝ }
-    ensures { λ r. ⌜ Puts (numbersLine (now (numbers .entry))) start limit r (now (room .entry)) (now (room .exit)) ⌝ }
+    ensures near { λ r. ⌜ r ≤ start + 21 * length (now (numbers .entry)) + 1 ⌝ }
+    ensures bytes { λ r. ⌜ Puts (numbersLine (now (numbers .entry))) start limit r (now (room .entry)) (now (room .exit)) ⌝ }
 {
     let mut end = start;
     let mut i: usize = 0;
