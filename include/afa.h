@@ -3,7 +3,7 @@
    answer, and what a run leaves in each table.
 
    Every input is answered. No function keeps what it is lent, and none reads
-   or writes outside it, if the caller sees to three things:
+   or writes outside it, if the caller sees to four things:
    - A pointer is good for the length beside it, which counts elements. It may
      be null where that length is 0. head, length, counts, record and found are
      never null.
@@ -13,8 +13,8 @@
      masks, levels, entered, cases, symbols, counts, record, found; afa_why
      writes found alone) shares no byte with anything else that it is lent in
      the same call.
-   afa_print_run takes some 520 KB of stack, afa_run and afa_step some 70 KB,
-   the others little. */
+   - The stack has room for the call: 550 KB for afa_print_run, 80 KB for
+     afa_run and afa_step, 1 KB for each of the others. */
 #ifndef AFA_H
 #define AFA_H
 
