@@ -118,7 +118,7 @@ module _ (image word room : List ℕ) where
       (λ e. fitted-past 1 (printOf (automatonOf image) word) room) (λ e. none-past (wordTest image word) room)
 
 pub prints-kept : (image word room : List ℕ) → PrintPromises image word room (printRun image word room)
-unfolding allBytes runLines
+unfolding allBytes runLines eventNumbers
 prints-kept image word room =
     record {
       word-test-first = not-printed image word room;

@@ -23,7 +23,7 @@ use Rattle.machine.specs.Machine.{begin, advance, chain, callsOf, blocks
 use Rattle.machine.specs.Meaning.{Closed, EnteredInOrder, WorksIn, EndedBy, makesBlock, takesHint, stepsMade, Raised}
 use Rattle.machine.specs.Why.{Reason, byBlocker, byStart, nothing, why, FirstCovering, LowestAbsent}
 use Rattle.machine.specs.Hitting.{cover, forbidden, withCases, toMeet, meets, best, picked, growthOf}
-use Rattle.machine.specs.Print.{eventNumbers, printOf, printRun}
+use Rattle.machine.specs.Print.{printOf, printRun}
 use Rattle.machine.specs.Lent.{BlockerRoom, Lent, EvenRooms, zeroed, blockersIn, column, eachTable}
 use Rattle.machine.specs.Runs.{Terms, RunRecord, Stage, fiveNumbers, systemOf, roomsOf, givenOf, shown, alone, checkRun, runOf}
 use Rattle.machine.specs.Program.{linesOf}
@@ -339,9 +339,11 @@ pub record PrintPromises (image word room : List ℕ) (answer : Answer) : Type 0
   -- a reader of what was written gives back I, and the symbol and the case of each event; nothing but their decimals, one space between, and a newline
   -- behind each line stands there
   pub reads-back : wordTest image word ≡ 1 → length (printOf (automatonOf image) word) ≤ length room
-      → readLines (take (answer .written) (answer .room)) ≡ (initialOf image ∷ []) ∷ map eventNumbers (eventsOf (automatonOf image) word)
+      → readLines (take (answer .written) (answer .room))
+      ≡ (initialOf image ∷ []) ∷ map (λ event. event .symbol ∷ event .case ∷ []) (eventsOf (automatonOf image) word)
   pub plain : wordTest image word ≡ 1 → length (printOf (automatonOf image) word) ≤ length room
-      → IsText ((initialOf image ∷ []) ∷ map eventNumbers (eventsOf (automatonOf image) word)) (take (answer .written) (answer .room))
+      → IsText ((initialOf image ∷ []) ∷ map (λ event. event .symbol ∷ event .case ∷ []) (eventsOf (automatonOf image) word))
+      (take (answer .written) (answer .room))
   -- "the bytes past it staying", whatever the number
   pub past-stays : PastStays room answer
   -- (what a caller wants to know) the first line has at most 21 bytes and each other at most 24, so a room of so many is long enough
