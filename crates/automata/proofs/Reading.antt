@@ -25,7 +25,7 @@ read-valid image number rows initial finals e z er ei ef = rw (← e, z, er, ei,
 
 -- an image with no refusing number has its first 20 bytes
 pub head-in : (image : List ℕ) (number at : ℕ) → number ≡ checkImage image → number ≡ 0 → at ≤ 20 → at ≤ length image
-head-in image number at e z l = omega (arith, valid-kept image (sym e ∙ z) .long)
+head-in image number at e z l = omega (arith, valid-kept image (sym e ∙ z) .whole)
 
 -- "When an answer is an enum, a definition gives this paper's number and values for each of its cases": a refused image gives its number, and nothing is
 -- written

@@ -21,7 +21,6 @@ use Rattle.automata.proofs.Chained.{passed}
 
 -- what the checks leave of an image that they do not refuse
 pub record Kept (image : List ℕ) : Type 0 where
-  pub long : 20 ≤ length image
   pub some-state : 1 ≤ statesOf image
   pub states-fit : statesOf image ≤ 64
   pub some-symbol : 1 ≤ symbolsOf image

@@ -10,7 +10,8 @@ use Rattle.lists.specs.Lists.{Each}
 use Rattle.masks.specs.Sets.{subset, union, single, absent}
 use Rattle.automata.specs.Image.{Row, Valid, statesOf, rowsFrom}
 use Rattle.automata.specs.declared.rows.Row as Read
-use Rattle.automata.specs.Automaton.{backward, bringAllIn, rowsWalked}
+use Rattle.automata.specs.Automaton.{withRows, backward, bringAllIn, rowsWalked}
+use Rattle.automata.specs.declared.backward.Sets.{Sets}
 use Rattle.automata.specs.declared.picks.Picked.{Picked}
 
 -- the answer of a walk over the rows of an automaton with n states: the backward set of X, and how many of the rows were walked
@@ -51,6 +52,17 @@ pub record Walking (image : List ℕ) (start end X at set : ℕ) : Type 0 where
   pub at-row : AtRow image start end at
   pub so-far : set ≡ backward (take (at-row .rows) (rowsBetween image start end)) X
   pub not-all : T (bringAllIn (statesOf image) (rowsBetween image start end) X (at-row .rows)) → ⊥
+
+-- the walk ends there: the set, and the number of the rows before the place, are its answer
+pub record Ended (image : List ℕ) (start end X at set : ℕ) : Type 0 where
+  pub behind : start ≤ at
+  pub walks : Walks (statesOf image) (rowsBetween image start end) X set ((at - start) / 9)
+
+-- the sets after one, two and three rows from a place on
+pub record ThreeRows (image : List ℕ) (X set at : ℕ) (sets : Sets) : Type 0 where
+  pub one : sets .one ≡ withRows X set (rowsFrom image 1 at)
+  pub two : sets .two ≡ withRows X set (rowsFrom image 2 at)
+  pub three : sets .three ≡ withRows X set (rowsFrom image 3 at)
 
 -- One walk over the rows picks for all states of X: a row is picked where its state has not picked and its case lies inside the set. So far: the states
 -- that have picked, and the union of the picked cases.
