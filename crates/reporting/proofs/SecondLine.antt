@@ -1,6 +1,6 @@
 -- The second line by the run's number, both lines one behind the other, and when there is room for them. Assumes nothing.
-use Prim.Native.Nat.{ℕ, zero, suc, _+_, _*_, _≤_, _<_, min, max}
-use mathlib.Core.Path.{_≡_, refl, sym, ap, subst, _∙_}
+use Prim.Native.Nat.{ℕ, _+_, _*_, _≤_, _<_, min, max}
+use mathlib.Core.Path.{_≡_, sym, ap, subst, _∙_}
 use mathlib.Core.List.{List, [], _++_, append-nil}
 use native.Mathlib.Decide.{decLe}
 use native.Mathlib.Omega.{arith}
@@ -11,6 +11,7 @@ use Rattle.writing.specs.Putting.{Puts}
 use Rattle.writing.proofs.LinesPut.{puts-joined}
 use Rattle.machine.specs.Runs.{RunRecord, fiveNumbers}
 use Rattle.machine.specs.Program.{secondLine, twoLines}
+use Rattle.machine.proofs.ProgramLines.{second-frame, second-word, second-none}
 
 -- of a table so many first places, or all if it has fewer
 module _ (asked count : ℕ) (table : List ℕ) (least : count ≡ min asked (length table)) where
@@ -32,22 +33,6 @@ module _ (start end count : ℕ) (masks symbols : List ℕ) where
   pub word-near : end ≤ start + 21 * length (take count symbols) + 1 → end ≤ start + 21 * max (length masks) (length symbols) + 1
   word-near l = omega (arith, length-take count symbols)
 
--- the line by the number: 0, 1, and any other
-module _ (answer : ℕ) (frame word : List ℕ) where
-  on-empty : answer ≡ 0 → frame ≡ secondLine answer frame word
-  unfolding secondLine
-  on-empty e = sym (ap (λ (n : ℕ). secondLine n frame word) e)
-
-  on-nonempty : answer ≡ 1 → word ≡ secondLine answer frame word
-  unfolding secondLine
-  on-nonempty e = sym (ap (λ (n : ℕ). secondLine n frame word) e)
-
-on-other : (answer : ℕ) (frame word : List ℕ) → (answer ≡ 0 → ⊥) → (answer ≡ 1 → ⊥) → _≡_ {A = List ℕ} [] (secondLine answer frame word)
-unfolding secondLine
-on-other zero frame word f g = absurd (f refl)
-on-other (suc zero) frame word f g = absurd (g refl)
-on-other (suc (suc number)) frame word f g = refl
-
 module _ {start limit end : ℕ} {before after : List ℕ} where
   put-as : (numbers others : List ℕ) → numbers ≡ others → Puts (numbersLine numbers) start limit end before after
       → Puts (numbersLine others) start limit end before after
@@ -55,16 +40,16 @@ module _ {start limit end : ℕ} {before after : List ℕ} where
 
   pub frame-put : (answer held count : ℕ) (masks word : List ℕ) → Puts (numbersLine (take count masks)) start limit end before after
       → count ≡ min held (length masks) → answer ≡ 0 → Puts (numbersLine (secondLine answer (take held masks) word)) start limit end before after
-  frame-put answer held count masks word p least e = put-as _ _ (least-taken held count masks least ∙ on-empty answer (take held masks) word e) p
+  frame-put answer held count masks word p least e = put-as _ _ (least-taken held count masks least ∙ sym (second-frame answer (take held masks) word e)) p
 
   pub word-put : (answer level count : ℕ) (frame symbols : List ℕ) → Puts (numbersLine (take count symbols)) start limit end before after
       → count ≡ min level (length symbols) → answer ≡ 1 → Puts (numbersLine (secondLine answer frame (take level symbols))) start limit end before after
   word-put answer level count frame symbols p least e =
-      put-as _ _ (least-taken level count symbols least ∙ on-nonempty answer frame (take level symbols) e) p
+      put-as _ _ (least-taken level count symbols least ∙ sym (second-word answer frame (take level symbols) e)) p
 
   pub none-put : (answer : ℕ) (frame word : List ℕ) → Puts (numbersLine []) start limit end before after → (answer ≡ 0 → ⊥) → (answer ≡ 1 → ⊥)
       → Puts (numbersLine (secondLine answer frame word)) start limit end before after
-  none-put answer frame word p f g = put-as _ _ (on-other answer frame word f g) p
+  none-put answer frame word p f g = put-as _ _ (sym (second-none answer frame word (omega arith))) p
 
 -- line 2 behind line 1
 pub both-put : (run : RunRecord) (masks symbols : List ℕ) {limit middle end : ℕ} {before between after : List ℕ}

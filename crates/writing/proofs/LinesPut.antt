@@ -1,4 +1,4 @@
--- Bytes put one after the other up to a limit, a line as it is written number by number, and how long it is. Assumes nothing.
+-- Bytes put one after the other up to a limit, a line as it is written number by number. Assumes nothing.
 use Prim.Native.Nat.{ℕ, zero, suc, _+_, _*_, _^_, _≤_, _<_}
 use mathlib.Core.Path.{_≡_, refl, sym, ap, _∙_}
 use mathlib.Core.List.{List, [], _∷_, _++_}
@@ -6,13 +6,11 @@ use native.Mathlib.Numerals.{add-one}
 use native.Mathlib.Omega.{arith}
 use lib.ListN.{length, getD, drop, length-append, drop-of-length-le}
 use lib.Seq.{sets}
-use Rattle.lists.specs.Lists.{here, there, Each}
 use Rattle.lists.proofs.Lists.{drop-first}
 use Rattle.writing.specs.Decimal.{digits}
-use Rattle.writing.specs.Lines.{space, newline, behindNumber, numbersLine}
+use Rattle.writing.specs.Lines.{newline, behindNumber, numbersLine}
 use Rattle.writing.specs.Rooms.{noBytes, fittedBytes}
 use Rattle.writing.specs.Putting.{nextNumber, Puts}
-use Rattle.writing.proofs.Decimals.{twenty-digits}
 use Rattle.writing.proofs.Placing.{written-behind, bytes-short, bytes-fit}
 
 pub below-limit : (end limit : ℕ) → end ≤ limit → limit < 2 ^ 63 → end < 2 ^ 63
@@ -141,26 +139,3 @@ module _ (success : ℕ) (bytes room : List ℕ) (size : ℕ) (before after : Li
     where
       long : size ≡ length bytes
       long = omega (arith, counted .counted)
-
--- how long a line of numbers of 64 bits is: each has at most 20 digits and a space, and the line a newline
-behind-short : (numbers : List ℕ) → Each (λ number. number < 2 ^ 64) numbers → length (behindNumber numbers) ≤ 21 * length numbers + 1
-unfolding behindNumber
-behind-short [] f = omega arith
-behind-short (number ∷ numbers) f =
-    omega (
-      arith,
-      length-append (digits number) (behindNumber numbers),
-      twenty-digits number (f number (here refl)),
-      behind-short numbers (λ x m. f x (there m)),
-    )
-
-pub line-short : (numbers : List ℕ) → Each (λ number. number < 2 ^ 64) numbers → length (numbersLine numbers) ≤ 21 * length numbers + 1
-unfolding numbersLine
-line-short [] f = omega arith
-line-short (number ∷ numbers) f =
-    omega (
-      arith,
-      length-append (digits number) (behindNumber numbers),
-      twenty-digits number (f number (here refl)),
-      behind-short numbers (λ x m. f x (there m)),
-    )
