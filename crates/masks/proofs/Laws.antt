@@ -269,15 +269,19 @@ below-power-of (suc a) = omega (arith, below-power-of a, pow-suc 2 a)
 pub member-below : (a q : ℕ) → Member q a → q < a
 member-below a q i = digit-above a a (below-power-of a) q i
 
--- so there is none exactly if a is a subset of b, and else the lowest is found
+-- so there is none exactly if a is a subset of b, and else the lowest is found: no lower one is absent
+none-lower : (a b q : ℕ) → lowestAbsent a b ≡ some q → (p : ℕ) → p < q → T (absent a b p) → ⊥
+unfolding lowestAbsent
+none-lower a b q e p l = first-from-before _ _ _ e p (omega arith) l
+
 pub lowest-found : (a b q : ℕ) → lowestAbsent a b ≡ some q → T (absent a b q) × ((p : ℕ) → p < q → T (absent a b p) → ⊥)
 unfolding lowestAbsent
-lowest-found a b q e = (first-from-some (absent a b) a 0 e .2, λ p l. first-from-before (absent a b) a 0 e p (omega arith) l)
+lowest-found a b q e = (first-from-some _ _ _ e .2, none-lower a b q e)
 
 pub none-found : (a b : ℕ) → lowestAbsent a b ≡ none → T (subset a b)
 unfolding lowestAbsent
 none-found a b e =
-    none-absent a b (λ q t. first-from-none (absent a b) a 0 e q (omega arith) (omega (arith, member-below a q (absent-means a b q .0 t .0))) t)
+    none-absent a b (λ q t. first-from-none (absent a b) _ _ e q (omega arith) (omega (arith, member-below a q (absent-means a b q .0 t .0))) t)
 
 -- the lowest of them stands above the zeros at the end, of which there are few
 pub trailing-fits : (a : ℕ) → trailingZeros 64 a < 2 ^ 8
