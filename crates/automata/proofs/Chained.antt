@@ -25,17 +25,17 @@ Numbered zero P = Unit
 Numbered (suc number) P = P
 
 -- where the answer is 0, a check with a number did not apply, and no later one did
-pub test-failed : (b : Bool) (number later : ℕ) → check b number later ≡ 0 → Numbered number (b ≡ false)
+pub test_failed : (b : Bool) (number later : ℕ) → check b number later ≡ 0 → Numbered number (b ≡ false)
 unfolding check
-test-failed b zero later e = tt
-test-failed true (suc number) later e = absurd (omega arith)
-test-failed false (suc number) later e = refl
+test_failed b zero later e = tt
+test_failed true (suc number) later e = absurd (omega arith)
+test_failed false (suc number) later e = refl
 
-pub later-none : (b : Bool) (number later : ℕ) → check b number later ≡ 0 → Numbered number (later ≡ 0)
+pub later_none : (b : Bool) (number later : ℕ) → check b number later ≡ 0 → Numbered number (later ≡ 0)
 unfolding check
-later-none b zero later e = tt
-later-none true (suc number) later e = absurd (omega arith)
-later-none false (suc number) later e = e
+later_none b zero later e = tt
+later_none true (suc number) later e = absurd (omega arith)
+later_none false (suc number) later e = e
 
 -- those facts, from the answer 0
-pub ruleset passed = (test-failed, later-none, facts)
+pub ruleset passed = (test_failed, later_none, facts)

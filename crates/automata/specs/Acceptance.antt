@@ -16,8 +16,8 @@ pub record Reaches (X : ℕ) (picked : (q : ℕ) → Member q X → Row) (p : �
 pub record Steps (A : Automaton) (s X Y : ℕ) : Type 0 where
   pub symbol : s < A.symbols
   pub picked : (q : ℕ) → Member q X → Row
-  pub of-symbol : (q : ℕ) (inside : Member q X) → picked q inside ∈ A.rows s
-  pub of-state : (q : ℕ) (inside : Member q X) → (picked q inside).state ≡ q
+  pub of_symbol : (q : ℕ) (inside : Member q X) → picked q inside ∈ A.rows s
+  pub of_state : (q : ℕ) (inside : Member q X) → (picked q inside).state ≡ q
   pub union : (p : ℕ) → Member p Y ↔ Reaches X picked p
 
 -- a run over a word from one case to another
@@ -28,8 +28,8 @@ pub data Run (A : Automaton) : List ℕ → ℕ → ℕ → Type 0 where
 -- "A word is accepted if some run over it starts in a case that contains I and ends in a final case"; "a case is final if it is a subset of F"
 pub record Accepted (A : Automaton) (word : List ℕ) : Type 0 where
   pub start : ℕ
-  pub is-case : T (within A.states start)
-  pub contains-initial : T (subset A.initial start)
+  pub is_case : T (within A.states start)
+  pub contains_initial : T (subset A.initial start)
   pub end : ℕ
   pub run : Run A word start end
   pub final : T (subset end A.final)

@@ -1,8 +1,8 @@
 // The backward set of a case by a symbol, from the rows where they stand in the image. The walk over the rows ends once every state is in.
 ghost use Rattle.std.specs.Prelude.{◌≡◌, ◌≤◌, ◌<◌};
 ghost use Rattle.masks.specs.Sets.{full};
-ghost use Rattle.automata.specs.Image.{Valid, statesOf, symbolsOf, rows_from, rows_of};
-ghost use Rattle.automata.specs.Automaton.{withRows};
+ghost use Rattle.automata.specs.Image.{Valid, states_of, symbols_of, rows_from, rows_of};
+ghost use Rattle.automata.specs.Automaton.{with_rows};
 ghost use Rattle.automata.specs.Walk.{Walks, RowsStand, Walking, ThreeRows, Ended};
 
 use crate::image::Symbol;
@@ -18,7 +18,7 @@ pub struct Walked {
 // The set, with the state of the row at `at` if the row's case is a subset of x.
 fn with_row(image: &[u8], at: usize, x: u64, set: u64) -> u64
     requires { RowsStand image.now 1 at }
-    ensures { result ≡ withRows x set (rows_from image.now 1 at) }
+    ensures { result ≡ with_rows x set (rows_from image.now 1 at) }
 {
     let row = row_at(image, at);
     masks::insert_if(masks::adds_none(row.case, x), row.state, set)
@@ -52,7 +52,7 @@ struct Reached {
 
 // Where the walk ends: behind the row that brings the last state in, or the last row. It goes row by row.
 fn by_ones(image: &[u8], rows: Rows, x: u64, all: u64, reached: Reached) -> Reached
-    requires { Walking image.now rows.start rows.end x reached.at reached.set × (all ≡ full (statesOf image.now)) }
+    requires { Walking image.now rows.start rows.end x reached.at reached.set × (all ≡ full (states_of image.now)) }
     ensures { Ended image.now rows.start rows.end x result.at result.set }
 {
     let mut at = reached.at;
@@ -70,7 +70,7 @@ fn by_ones(image: &[u8], rows: Rows, x: u64, all: u64, reached: Reached) -> Reac
 // The same from the first row on, by three rows at a time while there are so many. A set that lacks a state after three rows lacked it before; where they bring
 // the last state in, the sets on the way tell which row did, so that no row is read again.
 fn by_threes(image: &[u8], rows: Rows, x: u64, all: u64) -> Reached
-    requires { Walking image.now rows.start rows.end x rows.start 0 × (all ≡ full (statesOf image.now)) × (27 ≤ rows.end) }
+    requires { Walking image.now rows.start rows.end x rows.start 0 × (all ≡ full (states_of image.now)) × (27 ≤ rows.end) }
     ensures { Ended image.now rows.start rows.end x result.at result.set }
 {
     let last = rows.end - 27;
@@ -96,8 +96,8 @@ fn by_threes(image: &[u8], rows: Rows, x: u64, all: u64) -> Reached
 // The states that have a row by the symbol whose case is a subset of x, and the least number of the symbol's first rows that brings all n states in, or
 // the number of all rows.
 pub fn backward(image: &[u8], symbol: Symbol, x: u64) -> Walked
-    requires { Valid image.now × (symbol.0 < symbolsOf image.now) }
-    ensures { Walks (statesOf image.now) (rows_of image.now symbol.0) x result.set result.rows }
+    requires { Valid image.now × (symbol.0 < symbols_of image.now) }
+    ensures { Walks (states_of image.now) (rows_of image.now symbol.0) x result.set result.rows }
 {
     let rows = rows_of(image, symbol);
     let reached = by_threes(image, rows, x, masks::full(image[0]));

@@ -1,8 +1,8 @@
 // Reading an image: the checks 20 to 27 in 01's order, and the head of an image that none refuses.
 ghost use Rattle.std.specs.Prelude.{◌≡◌, ◌+◌, ◌*◌, ◌≤◌, ◌<◌, length};
-ghost use Rattle.automata.specs.Image.{symbolsOf, rowCountOf, offset_of, size_of, pairsHold, rowHolds, rowsHold, checkImage};
-ghost use Rattle.automata.specs.Image.{outside as isOutside};
-ghost use Rattle.automata.specs.Answers.{readImage};
+ghost use Rattle.automata.specs.Image.{symbols_of, row_count_of, offset_of, size_of, pairs_hold, row_holds, rows_hold, check_image};
+ghost use Rattle.automata.specs.Image.{outside as is_outside};
+ghost use Rattle.automata.specs.Answers.{read_image};
 
 use crate::bytes::{read2, read4, read8, wide};
 
@@ -29,7 +29,7 @@ pub enum Image {
 
 // Whether the number is 0 or above 64.
 fn outside(number: u8) -> bool
-    ensures { result ≡ isOutside number }
+    ensures { result ≡ is_outside number }
 {
     if number == 0 {
         return true;
@@ -55,8 +55,8 @@ pub(crate) fn size_of(image: &[u8], symbol: Symbol) -> usize
 
 // Whether each pair keeps the span rule and the last span ends at the image's end.
 fn pairs_hold(image: &[u8]) -> bool
-    requires { 20 + 8 * symbolsOf image.now ≤ length image.now }
-    ensures { result ≡ pairsHold image.now }
+    requires { 20 + 8 * symbols_of image.now ≤ length image.now }
+    ensures { result ≡ pairs_hold image.now }
 {
     let symbols = image[1];
     let mut start = 20 + 8 * wide(symbols);
@@ -78,8 +78,8 @@ fn pairs_hold(image: &[u8]) -> bool
 
 // Whether row i has a state below n and no bit of its case at n or above.
 fn row_holds(image: &[u8], i: usize) -> bool
-    requires { 29 + 8 * symbolsOf image.now + 9 * i ≤ length image.now }
-    ensures { result ≡ rowHolds image.now i }
+    requires { 29 + 8 * symbols_of image.now + 9 * i ≤ length image.now }
+    ensures { result ≡ row_holds image.now i }
 {
     let states = image[0];
     let at = 20 + 8 * wide(image[1]) + 9 * i;
@@ -91,8 +91,8 @@ fn row_holds(image: &[u8], i: usize) -> bool
 
 // Whether each of the m rows does.
 fn rows_hold(image: &[u8]) -> bool
-    requires { 20 + 8 * symbolsOf image.now + 9 * rowCountOf image.now ≤ length image.now }
-    ensures { result ≡ rowsHold image.now }
+    requires { 20 + 8 * symbols_of image.now + 9 * row_count_of image.now ≤ length image.now }
+    ensures { result ≡ rows_hold image.now }
 {
     let rows = read2(image, 2);
     let mut i: usize = 0;
@@ -107,7 +107,7 @@ fn rows_hold(image: &[u8]) -> bool
 
 // 0, or the number of the first check that refuses the image.
 fn check_image(image: &[u8]) -> u8
-    ensures { result ≡ checkImage image.now }
+    ensures { result ≡ check_image image.now }
 {
     if image.len() < 20 {
         return 20;
@@ -144,7 +144,7 @@ fn check_image(image: &[u8]) -> u8
 
 // The head of an image that no check refuses, else the number of the first that does.
 pub fn read_image(image: &[u8]) -> Image
-    ensures { result ≡ readImage image.now }
+    ensures { result ≡ read_image image.now }
 {
     let number = check_image(image);
     if number != 0 {

@@ -1,7 +1,7 @@
 // The word test: whether an automaton accepts a word.
 ghost use Rattle.std.specs.Prelude.{◌≡◌};
-ghost use Rattle.automata.specs.Automaton.{automatonOf, takenBack};
-ghost use Rattle.automata.specs.WordTest.{known, WordOf, wordTest};
+ghost use Rattle.automata.specs.Automaton.{automaton_of, taken_back};
+ghost use Rattle.automata.specs.WordTest.{known, WordOf, word_test};
 
 use crate::backward::backward;
 use crate::image::{Image, Symbol, read_image};
@@ -23,7 +23,7 @@ pub fn symbols_below(word: &[u8], symbols: u8) -> bool
 // The case x taken back by the word's symbols, from last to first.
 pub fn taken_back(image: &[u8], word: &[u8], x: u64) -> u64
     requires { WordOf image.now word.now }
-    ensures { result ≡ takenBack (automatonOf image.now) word.now x }
+    ensures { result ≡ taken_back (automaton_of image.now) word.now x }
 {
     let mut case = x;
     let mut i = word.len();
@@ -36,7 +36,7 @@ pub fn taken_back(image: &[u8], word: &[u8], x: u64) -> u64
 
 // 1 where the word is accepted and 0 where it is not; the image's number where it is refused; 32 where a symbol is k or above.
 pub fn word_test(image: &[u8], word: &[u8]) -> u64
-    ensures { result ≡ wordTest image.now word.now }
+    ensures { result ≡ word_test image.now word.now }
 {
     match read_image(image) {
         Image::Refused(number) => number as u64,

@@ -10,27 +10,27 @@ use lib.Seq.{append_snoc, length-take-le, set-get_or}
 use Rattle.lists.specs.Tests.{neg, choose}
 use Rattle.lists.specs.Lists.{keep}
 use Rattle.machine.specs.Machine.{Blocker, covers, leaves, staying}
-use Rattle.machine.specs.Lent.{BlockerRoom, blockerOf, blockerAt, blockersFrom, column, mask_of, levelOf, entered_of, eachTable}
-use Rattle.machine.proofs.LentTables.{tables-alike, column-length, column-append}
-use Rattle.blockers.specs.Room.{HoldsRoom, put_at, over, ClosedUp, clearedBetween}
-use Rattle.blockers.proofs.Over.{over-behind, over-store-last, over-over, over_nothing}
-use Rattle.blockers.proofs.Walks.{next-blocker, no-blocker}
+use Rattle.machine.specs.Lent.{BlockerRoom, blocker_of, blocker_at, blockers_from, column, mask_of, level_of, entered_of, each_table}
+use Rattle.machine.proofs.LentTables.{tables_alike, column_length, column_append}
+use Rattle.blockers.specs.Room.{HoldsRoom, put_at, over, ClosedUp, cleared_between}
+use Rattle.blockers.proofs.Over.{over_behind, over_store_last, over_over, over_nothing}
+use Rattle.blockers.proofs.Walks.{next_blocker, no_blocker}
 
 -- two changes that are the same of each table of so many places are the same of the room
-pub tables-within : {n : ℕ} {room : BlockerRoom} → HoldsRoom n room → (f g : (Blocker → ℕ) → List ℕ → List ℕ)
-    → ((field : Blocker → ℕ) (table : List ℕ) → n ≤ length table → f field table ≡ g field table) → eachTable f room ≡ eachTable g room
-tables-within {n} {room} holds f g =
-    tables-alike f g room (λ table. n ≤ length table) holds.read.in-masks holds.read.in-levels holds.in-entered
+pub tables_within : {n : ℕ} {room : BlockerRoom} → HoldsRoom n room → (f g : (Blocker → ℕ) → List ℕ → List ℕ)
+    → ((field : Blocker → ℕ) (table : List ℕ) → n ≤ length table → f field table ≡ g field table) → each_table f room ≡ each_table g room
+tables_within {n} {room} holds f g =
+    tables_alike f g room (λ table. n ≤ length table) holds.read.in_masks holds.read.in_levels holds.in_entered
 
 -- a change that leaves a place of each table as it was leaves the blocker there
-pub same-blocker : {n : ℕ} {room : BlockerRoom} → HoldsRoom n room → (f : (Blocker → ℕ) → List ℕ → List ℕ) (i : ℕ)
+pub same_blocker : {n : ℕ} {room : BlockerRoom} → HoldsRoom n room → (f : (Blocker → ℕ) → List ℕ → List ℕ) (i : ℕ)
     → ((field : Blocker → ℕ) (table : List ℕ) → n ≤ length table → get_or (f field table) i 0 ≡ get_or table i 0)
-    → blockerAt (eachTable f room) i ≡ blockerAt room i
-same-blocker {room = room} holds f i same =
+    → blocker_at (each_table f room) i ≡ blocker_at room i
+same_blocker {room = room} holds f i same =
     rw (
-      same mask_of room.masks holds.read.in-masks,
-      same levelOf room.levels holds.read.in-levels,
-      same entered_of room.entered holds.in-entered,
+      same mask_of room.masks holds.read.in_masks,
+      same level_of room.levels holds.read.in_levels,
+      same entered_of room.entered holds.in_entered,
     )
 
 -- a room's tables are as long as another's
@@ -39,26 +39,26 @@ pub record AsLong (room room' : BlockerRoom) : Type 0 where
   pub levels : length room'.levels ≡ length room.levels
   pub entered : length room'.entered ≡ length room.entered
 
-pub long-itself : (room : BlockerRoom) → AsLong room room
-long-itself room = record { masks = refl; levels = refl; entered = refl }
+pub long_itself : (room : BlockerRoom) → AsLong room room
+long_itself room = record { masks = refl; levels = refl; entered = refl }
 
-pub long-further : {first room room' : BlockerRoom} → AsLong first room → AsLong room room' → AsLong first room'
-long-further long further = record {
+pub long_further : {first room room' : BlockerRoom} → AsLong first room → AsLong room room' → AsLong first room'
+long_further long further = record {
   masks = further.masks ∙ long.masks;
   levels = further.levels ∙ long.levels;
   entered = further.entered ∙ long.entered;
 }
 
-pub long-holds : {n : ℕ} {room room' : BlockerRoom} → AsLong room room' → HoldsRoom n room → HoldsRoom n room'
-long-holds long holds = record {
-  read = record { in-masks = omega (arith, long.masks, holds.read.in-masks); in-levels = omega (arith, long.levels, holds.read.in-levels) };
-  in-entered = omega (arith, long.entered, holds.in-entered);
+pub long_holds : {n : ℕ} {room room' : BlockerRoom} → AsLong room room' → HoldsRoom n room → HoldsRoom n room'
+long_holds long holds = record {
+  read = record { in_masks = omega (arith, long.masks, holds.read.in_masks); in_levels = omega (arith, long.levels, holds.read.in_levels) };
+  in_entered = omega (arith, long.entered, holds.in_entered);
 }
 
 -- a store leaves the tables as long as they were
-pub put-long : (place : ℕ) (Y : Blocker) {room room' : BlockerRoom} → room' ≡ put_at Y place room → AsLong room room'
+pub put_long : (place : ℕ) (Y : Blocker) {room room' : BlockerRoom} → room' ≡ put_at Y place room → AsLong room room'
 unfolding put_at
-put-long place Y {room} put =
+put_long place Y {room} put =
     subst (AsLong room) (sym put)
     (record {
       masks = length-set room.masks place Y.mask;
@@ -67,44 +67,44 @@ put-long place Y {room} put =
     })
 
 -- a blocker leaves for Y where Y covers it at its own level
-leaves-covered : (Y blocker : Blocker) → covers blocker.level blocker.mask Y ≡ leaves Y blocker
+leaves_covered : (Y blocker : Blocker) → covers blocker.level blocker.mask Y ≡ leaves Y blocker
 unfolding covers leaves
-leaves-covered Y blocker = refl
+leaves_covered Y blocker = refl
 
 -- who stays of some blockers, by the first of them
 module _ (Y first : Blocker) (rest : List Blocker) where
-  first-leaves : leaves Y first ≡ true → staying Y (first ∷ rest) ≡ staying Y rest
+  first_leaves : leaves Y first ≡ true → staying Y (first ∷ rest) ≡ staying Y rest
   unfolding staying keep choose neg
-  first-leaves e = rw e
+  first_leaves e = rw e
 
-  first-stays : leaves Y first ≡ false → staying Y (first ∷ rest) ≡ first ∷ staying Y rest
+  first_stays : leaves Y first ≡ false → staying Y (first ∷ rest) ≡ first ∷ staying Y rest
   unfolding staying keep choose neg
-  first-stays e = rw e
+  first_stays e = rw e
 
 -- One table while blockers close up from `start` on, of which those in `stayed` are done: they are written over it.
 module _ (field : Blocker → ℕ) (start : ℕ) (stayed : List Blocker) (before : List ℕ) (fits : start ≤ length before) where
   front_length : length (take start before ++ column field stayed) ≡ start + length stayed
   front_length =
-      omega (arith, length-append (take start before) (column field stayed), length-take-le start before fits, column-length field stayed)
+      omega (arith, length-append (take start before) (column field stayed), length-take-le start before fits, column_length field stayed)
 
-  closing-ahead : (i : ℕ) → start + length stayed ≤ i → get_or (over (take start before ++ column field stayed) before) i 0 ≡ get_or before i 0
-  closing-ahead i l = over-behind (take start before ++ column field stayed) before i (omega (arith, front_length))
+  closing_ahead : (i : ℕ) → start + length stayed ≤ i → get_or (over (take start before ++ column field stayed) before) i 0 ≡ get_or before i 0
+  closing_ahead i l = over_behind (take start before ++ column field stayed) before i (omega (arith, front_length))
 
-  closing-stores : (blocker : Blocker) (kept : ℕ) → kept ≡ start + length stayed → kept < length before
+  closing_stores : (blocker : Blocker) (kept : ℕ) → kept ≡ start + length stayed → kept < length before
       → set (over (take start before ++ column field stayed) before) kept (field blocker)
       ≡ over (take start before ++ column field (stayed ++ blocker ∷ [])) before
   unfolding column
-  closing-stores blocker kept e l =
-      over-store-last (take start before) (column field stayed) before kept (field blocker) (e ∙ sym front_length) l
-      ∙ ap (λ (new : List ℕ). over (take start before ++ new) before) (sym (column-append field stayed (blocker ∷ [])))
+  closing_stores blocker kept e l =
+      over_store_last (take start before) (column field stayed) before kept (field blocker) (e ∙ sym front_length) l
+      ∙ ap (λ (new : List ℕ). over (take start before ++ new) before) (sym (column_append field stayed (blocker ∷ [])))
 
   -- the places up to `to` are cleared behind them
-  closing-cleared : (kept to : ℕ) → kept ≡ start + length stayed
+  closing_cleared : (kept to : ℕ) → kept ≡ start + length stayed
       → over (take kept (over (take start before ++ column field stayed) before) ++ replicate (to - kept) 0)
       (over (take start before ++ column field stayed) before)
       ≡ over (take start before ++ column field stayed ++ replicate (to - kept) 0) before
-  closing-cleared kept to e =
-      over-over (take start before ++ column field stayed) (replicate (to - kept) 0) before kept (e ∙ sym front_length)
+  closing_cleared kept to e =
+      over_over (take start before ++ column field stayed) (replicate (to - kept) 0) before kept (e ∙ sym front_length)
 
 -- The walk that closes blockers up, before the one at i: those in `stayed` are done, `kept` is the place for the next, and they with what stays of
 -- the blockers ahead are all that stay.
@@ -117,40 +117,40 @@ pub record ClosingUp (Y : Blocker) (start from to : ℕ) (room : BlockerRoom) (k
   pub long : AsLong room room'
   pub stayed : List Blocker
   pub count : kept ≡ start + length stayed
-  pub ahead : stayed ++ staying Y (blockersFrom room (to - i) i) ≡ staying Y (blockersFrom room (to - from) from)
-  pub closing : room' ≡ eachTable (λ field before. over (take start before ++ column field stayed) before) room
+  pub ahead : stayed ++ staying Y (blockers_from room (to - i) i) ≡ staying Y (blockers_from room (to - from) from)
+  pub closing : room' ≡ each_table (λ field before. over (take start before ++ column field stayed) before) room
 
-pub close-starts : {Y : Blocker} {start from to : ℕ} {room : BlockerRoom} → start ≤ from → from ≤ to → HoldsRoom to room
+pub close_starts : {Y : Blocker} {start from to : ℕ} {room : BlockerRoom} → start ≤ from → from ≤ to → HoldsRoom to room
     → ClosingUp Y start from to room start from room
 unfolding column
-close-starts {Y} {start} {from} {to} {room} a b holds = record {
+close_starts {Y} {start} {from} {to} {room} a b holds = record {
   begins = omega arith;
   bound = b;
   behind = a;
   few = omega arith;
   first = holds;
-  long = long-itself room;
+  long = long_itself room;
   stayed = [];
   count = omega arith;
   ahead = refl;
-  closing = tables-within holds (λ field before. before) (λ field before. over (take start before ++ []) before)
+  closing = tables_within holds (λ field before. before) (λ field before. over (take start before ++ []) before)
       (λ field before l. over_nothing start before);
 }
 
 module _ {Y : Blocker} {start from to : ℕ} {room : BlockerRoom} {kept i : ℕ} {room' : BlockerRoom}
     (so_far : ClosingUp Y start from to room kept i room') where
   -- what the walk reads is what stood there before it
-  unchanged : blockerAt room' i ≡ blockerAt room i
+  unchanged : blocker_at room' i ≡ blocker_at room i
   unchanged =
-      ap (λ (r : BlockerRoom). blockerAt r i) so_far.closing
-      ∙ same-blocker so_far.first (λ field before. over (take start before ++ column field so_far.stayed) before) i
-      (λ field before l. closing-ahead field start so_far.stayed before (omega (arith, so_far.begins, so_far.bound, so_far.behind)) i
+      ap (λ (r : BlockerRoom). blocker_at r i) so_far.closing
+      ∙ same_blocker so_far.first (λ field before. over (take start before ++ column field so_far.stayed) before) i
+      (λ field before l. closing_ahead field start so_far.stayed before (omega (arith, so_far.begins, so_far.bound, so_far.behind)) i
       (omega (arith, so_far.count, so_far.few, so_far.begins, so_far.behind)))
 
   -- one blocker further, with those that stayed by then
   goes : {kept' : ℕ} {room'' : BlockerRoom} (stayed : List Blocker) → i < to → kept' ≤ kept + 1 → kept' ≡ start + length stayed
-      → stayed ++ staying Y (blockersFrom room (to - (i + 1)) (i + 1)) ≡ so_far.stayed ++ staying Y (blockersFrom room (to - i) i)
-      → AsLong room room'' → room'' ≡ eachTable (λ field before. over (take start before ++ column field stayed) before) room
+      → stayed ++ staying Y (blockers_from room (to - (i + 1)) (i + 1)) ≡ so_far.stayed ++ staying Y (blockers_from room (to - i) i)
+      → AsLong room room'' → room'' ≡ each_table (λ field before. over (take start before ++ column field stayed) before) room
       → ClosingUp Y start from to room kept' (i + 1) room''
   goes stayed l most count ahead long closing =
       record {
@@ -166,81 +166,81 @@ module _ {Y : Blocker} {start from to : ℕ} {room : BlockerRoom} {kept i : ℕ}
         closing = closing;
       }
 
-  pub close-leaves : (b : Bool) → i < to → b ≡ covers (get_or room'.levels i 0) (get_or room'.masks i 0) Y → b ≡ true
+  pub close_leaves : (b : Bool) → i < to → b ≡ covers (get_or room'.levels i 0) (get_or room'.masks i 0) Y → b ≡ true
       → ClosingUp Y start from to room kept (i + 1) room'
-  close-leaves b l e t =
-      let rest : List Blocker = blockersFrom room (to - (i + 1)) (i + 1) in
-      let left : leaves Y (blockerAt room i) ≡ true = sym (e ∙ leaves-covered Y (blockerAt room' i) ∙ ap (leaves Y) unchanged) ∙ t in
-      let same : staying Y rest ≡ staying Y (blockersFrom room (to - i) i) =
-      sym (ap (staying Y) (next-blocker room to i l) ∙ first-leaves Y (blockerAt room i) rest left) in
+  close_leaves b l e t =
+      let rest : List Blocker = blockers_from room (to - (i + 1)) (i + 1) in
+      let left : leaves Y (blocker_at room i) ≡ true = sym (e ∙ leaves_covered Y (blocker_at room' i) ∙ ap (leaves Y) unchanged) ∙ t in
+      let same : staying Y rest ≡ staying Y (blockers_from room (to - i) i) =
+      sym (ap (staying Y) (next_blocker room to i l) ∙ first_leaves Y (blocker_at room i) rest left) in
       goes so_far.stayed l (omega arith) so_far.count (ap (λ (others : List Blocker). so_far.stayed ++ others) same)
       so_far.long so_far.closing
 
   -- One that stays goes to the next place.
   module _ (b : Bool) (l : i < to) (e : b ≡ covers (get_or room'.levels i 0) (get_or room'.masks i 0) Y) (t : b ≡ false) where
-    pub close-stays : {room'' : BlockerRoom} → room'' ≡ put_at (blockerAt room' i) kept room' → ClosingUp Y start from to room (kept + 1) (i + 1) room''
+    pub close_stays : {room'' : BlockerRoom} → room'' ≡ put_at (blocker_at room' i) kept room' → ClosingUp Y start from to room (kept + 1) (i + 1) room''
     unfolding put_at
-    close-stays {room''} put =
-        let blocker : Blocker = blockerAt room' i in
-        let rest : List Blocker = blockersFrom room (to - (i + 1)) (i + 1) in
-        let same : blocker ∷ staying Y rest ≡ staying Y (blockersFrom room (to - i) i) =
-        sym (ap (staying Y) (next-blocker room to i l ∙ ap (λ (first : Blocker). first ∷ rest) (sym unchanged))
-        ∙ first-stays Y blocker rest (sym (e ∙ leaves-covered Y blocker) ∙ t)) in
+    close_stays {room''} put =
+        let blocker : Blocker = blocker_at room' i in
+        let rest : List Blocker = blockers_from room (to - (i + 1)) (i + 1) in
+        let same : blocker ∷ staying Y rest ≡ staying Y (blockers_from room (to - i) i) =
+        sym (ap (staying Y) (next_blocker room to i l ∙ ap (λ (first : Blocker). first ∷ rest) (sym unchanged))
+        ∙ first_stays Y blocker rest (sym (e ∙ leaves_covered Y blocker) ∙ t)) in
         goes (so_far.stayed ++ blocker ∷ []) l (omega arith) (omega (arith, so_far.count, length-append so_far.stayed (blocker ∷ [])))
         (append_snoc so_far.stayed blocker (staying Y rest) ∙ ap (λ (others : List Blocker). so_far.stayed ++ others) same)
-        (long-further so_far.long (put-long _ _ put))
+        (long_further so_far.long (put_long _ _ put))
         (put
-        ∙ ap (λ (r : BlockerRoom). eachTable (λ field before. set before kept (field blocker)) r) so_far.closing
-        ∙ tables-within so_far.first
+        ∙ ap (λ (r : BlockerRoom). each_table (λ field before. set before kept (field blocker)) r) so_far.closing
+        ∙ tables_within so_far.first
         (λ field before. set (over (take start before ++ column field so_far.stayed) before) kept (field blocker))
         (λ field before. over (take start before ++ column field (so_far.stayed ++ blocker ∷ [])) before)
-        (λ field before h. closing-stores field start so_far.stayed before (omega (arith, so_far.begins, so_far.behind)) blocker kept so_far.count
+        (λ field before h. closing_stores field start so_far.stayed before (omega (arith, so_far.begins, so_far.behind)) blocker kept so_far.count
         (omega (arith, so_far.few, so_far.begins, so_far.behind))))
 
     -- where none has left yet, it stands there already
-    pub close-stands : kept ≡ i → ClosingUp Y start from to room (kept + 1) (i + 1) room'
+    pub close_stands : kept ≡ i → ClosingUp Y start from to room (kept + 1) (i + 1) room'
     unfolding put_at
-    close-stands same = close-stays own
+    close_stands same = close_stays own
       where
-        own : room' ≡ put_at (blockerAt room' i) kept room'
+        own : room' ≡ put_at (blocker_at room' i) kept room'
         own =
             let stands : (table : List ℕ) → set table kept (get_or table i 0) ≡ table =
             λ table. ap (λ (k : ℕ). set table k (get_or table i 0)) same ∙ set-get_or table i 0 in
             sym (rw (stands room'.masks, stands room'.levels, stands room'.entered))
 
-  pub close-ends : {room'' : BlockerRoom} → room'' ≡ clearedBetween kept to room' → to ≤ i → ClosedUp Y start from to kept room room''
-  unfolding staying keep clearedBetween
-  close-ends cleared l =
-      let all : so_far.stayed ≡ staying Y (blockersFrom room (to - from) from) =
+  pub close_ends : {room'' : BlockerRoom} → room'' ≡ cleared_between kept to room' → to ≤ i → ClosedUp Y start from to kept room room''
+  unfolding staying keep cleared_between
+  close_ends cleared l =
+      let all : so_far.stayed ≡ staying Y (blockers_from room (to - from) from) =
       sym (append-nil so_far.stayed)
-      ∙ ap (λ (others : List Blocker). so_far.stayed ++ staying Y others) (sym (no-blocker room to i l))
+      ∙ ap (λ (others : List Blocker). so_far.stayed ++ staying Y others) (sym (no_blocker room to i l))
       ∙ so_far.ahead in
       record {
         count = so_far.count ∙ ap (λ (table : List Blocker). start + length table) all;
         few = omega (arith, so_far.few, so_far.bound);
         tables = cleared
-            ∙ ap (λ (r : BlockerRoom). eachTable (λ field before. over (take kept before ++ replicate (to - kept) 0) before) r) so_far.closing
-            ∙ tables-within so_far.first _ (λ field before. over (take start before ++ column field so_far.stayed ++ replicate (to - kept) 0) before)
-            (λ field before h. closing-cleared field start so_far.stayed before (omega (arith, so_far.begins, so_far.bound, so_far.behind)) kept to
+            ∙ ap (λ (r : BlockerRoom). each_table (λ field before. over (take kept before ++ replicate (to - kept) 0) before) r) so_far.closing
+            ∙ tables_within so_far.first _ (λ field before. over (take start before ++ column field so_far.stayed ++ replicate (to - kept) 0) before)
+            (λ field before h. closing_cleared field start so_far.stayed before (omega (arith, so_far.begins, so_far.bound, so_far.behind)) kept to
             so_far.count)
             ∙ ap (λ (table : List Blocker).
-            eachTable (λ field before. over (take start before ++ column field table ++ replicate (to - kept) 0) before) room) all;
+            each_table (λ field before. over (take start before ++ column field table ++ replicate (to - kept) 0) before) room) all;
       }
 
 -- One table while its places from `from` on are cleared, before the one at i.
-clearing-starts : (from : ℕ) (before : List ℕ) → before ≡ over (take from before ++ replicate (from - from) 0) before
-clearing-starts from before =
+clearing_starts : (from : ℕ) (before : List ℕ) → before ≡ over (take from before ++ replicate (from - from) 0) before
+clearing_starts from before =
     let none : from - from ≡ 0 = omega arith in
     over_nothing from before ∙ ap (λ (k : ℕ). over (take from before ++ replicate k 0) before) (sym none)
 
-zeros-more : (from i : ℕ) → from ≤ i → ◌++◌ {A = ℕ} (replicate (i - from) 0) (0 ∷ []) ≡ replicate (i + 1 - from) 0
-zeros-more from i a =
+zeros_more : (from i : ℕ) → from ≤ i → ◌++◌ {A = ℕ} (replicate (i - from) 0) (0 ∷ []) ≡ replicate (i + 1 - from) 0
+zeros_more from i a =
     let one : i - from + 1 ≡ i + 1 - from = omega arith in
     replicate-append-replicate (i - from) 1 0 ∙ ap (λ (k : ℕ). replicate k 0) one
 
-one-more-zero : (from i : ℕ) (before : List ℕ) → from ≤ i → i < length before
+one_more_zero : (from i : ℕ) (before : List ℕ) → from ≤ i → i < length before
     → set (over (take from before ++ replicate (i - from) 0) before) i 0 ≡ over (take from before ++ replicate (i + 1 - from) 0) before
-one-more-zero from i before a l =
+one_more_zero from i before a l =
     let front : i ≡ length (take from before ++ replicate (i - from) 0) =
     omega (
       arith,
@@ -248,8 +248,8 @@ one-more-zero from i before a l =
       length-take-le from before (omega arith),
       length-replicate {A = ℕ} (i - from) 0,
     ) in
-    over-store-last (take from before) (replicate (i - from) 0) before i 0 front l
-    ∙ ap (λ (more : List ℕ). over (take from before ++ more) before) (zeros-more from i a)
+    over_store_last (take from before) (replicate (i - from) 0) before i 0 front l
+    ∙ ap (λ (more : List ℕ). over (take from before ++ more) before) (zeros_more from i a)
 
 -- the room while its places from `from` on are cleared, before the one at i
 pub record Clearing (from to i : ℕ) (room room' : BlockerRoom) : Type 0 where
@@ -257,40 +257,40 @@ pub record Clearing (from to i : ℕ) (room room' : BlockerRoom) : Type 0 where
   pub bound : i ≤ max from to
   pub first : HoldsRoom to room
   pub long : AsLong room room'
-  pub cleared : room' ≡ eachTable (λ field before. over (take from before ++ replicate (i - from) 0) before) room
+  pub cleared : room' ≡ each_table (λ field before. over (take from before ++ replicate (i - from) 0) before) room
 
-pub clear-starts : {from to : ℕ} {room : BlockerRoom} → HoldsRoom to room → Clearing from to from room room
-clear-starts {from} {to} {room} holds = record {
+pub clear_starts : {from to : ℕ} {room : BlockerRoom} → HoldsRoom to room → Clearing from to from room room
+clear_starts {from} {to} {room} holds = record {
   begins = omega arith;
   bound = omega arith;
   first = holds;
-  long = long-itself room;
-  cleared = tables-within holds (λ field before. before) (λ field before. over (take from before ++ replicate (from - from) 0) before)
-      (λ field before l. clearing-starts from before);
+  long = long_itself room;
+  cleared = tables_within holds (λ field before. before) (λ field before. over (take from before ++ replicate (from - from) 0) before)
+      (λ field before l. clearing_starts from before);
 }
 
 module _ {from to i : ℕ} {room room' : BlockerRoom} (so_far : Clearing from to i room room') where
-  pub clear-goes : {room'' : BlockerRoom} → i < to → room'' ≡ put_at (blockerOf 0 0) i room' → Clearing from to (i + 1) room room''
+  pub clear_goes : {room'' : BlockerRoom} → i < to → room'' ≡ put_at (blocker_of 0 0) i room' → Clearing from to (i + 1) room room''
   unfolding put_at
-  clear-goes {room''} l put = record {
+  clear_goes {room''} l put = record {
     begins = omega (arith, so_far.begins);
     bound = omega arith;
     first = so_far.first;
-    long = long-further so_far.long (put-long _ _ put);
+    long = long_further so_far.long (put_long _ _ put);
     cleared = put
-        ∙ ap (λ (r : BlockerRoom). eachTable (λ field before. set before i (field (blockerOf 0 0))) r) so_far.cleared
+        ∙ ap (λ (r : BlockerRoom). each_table (λ field before. set before i (field (blocker_of 0 0))) r) so_far.cleared
         ∙ zeros;
   }
     where
-      zeros : eachTable (λ field before. set (over (take from before ++ replicate (i - from) 0) before) i (field (blockerOf 0 0))) room
-          ≡ eachTable (λ field before. over (take from before ++ replicate (i + 1 - from) 0) before) room
+      zeros : each_table (λ field before. set (over (take from before ++ replicate (i - from) 0) before) i (field (blocker_of 0 0))) room
+          ≡ each_table (λ field before. over (take from before ++ replicate (i + 1 - from) 0) before) room
       zeros =
-          tables-within so_far.first (λ field before. set (over (take from before ++ replicate (i - from) 0) before) i 0)
+          tables_within so_far.first (λ field before. set (over (take from before ++ replicate (i - from) 0) before) i 0)
           (λ field before. over (take from before ++ replicate (i + 1 - from) 0) before)
-          (λ field before h. one-more-zero from i before so_far.begins (omega arith))
+          (λ field before h. one_more_zero from i before so_far.begins (omega arith))
 
-  pub clear-ends : to ≤ i → room' ≡ clearedBetween from to room
-  unfolding clearedBetween
-  clear-ends l =
+  pub clear_ends : to ≤ i → room' ≡ cleared_between from to room
+  unfolding cleared_between
+  clear_ends l =
       let all : i - from ≡ to - from = omega (arith, so_far.bound) in
-      so_far.cleared ∙ ap (λ (k : ℕ). eachTable (λ field before. over (take from before ++ replicate k 0) before) room) all
+      so_far.cleared ∙ ap (λ (k : ℕ). each_table (λ field before. over (take from before ++ replicate k 0) before) room) all

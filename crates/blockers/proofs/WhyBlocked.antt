@@ -6,44 +6,44 @@ use mathlib.Core.List.{List}
 use mathlib.Core.Option.{some}
 use borrow.Author.Tests.{eqb-true, eqb-false}
 use lib.Dec.{eqb}
-use Rattle.masks.specs.Sets.{subset, lowestAbsent}
+use Rattle.masks.specs.Sets.{subset, lowest_absent}
 use Rattle.masks.specs.declared.State.{State}
-use Rattle.masks.proofs.Laws.{lowest-none}
+use Rattle.masks.proofs.Laws.{lowest_none}
 use Rattle.machine.specs.Machine.{Blocker, blocked}
-use Rattle.machine.specs.Why.{firstCovering, absentReason, why, isReason}
-use Rattle.machine.proofs.Reasons.{blocked-by-reason}
-use Rattle.blockers.specs.Answers.{reasonOf}
+use Rattle.machine.specs.Why.{first_covering, absent_reason, why, is_reason}
+use Rattle.machine.proofs.Reasons.{blocked_by_reason}
+use Rattle.blockers.specs.Answers.{reason_of}
 use Rattle.blockers.specs.declared.reasons.Reason.{Reason}
 use Rattle.blockers.specs.declared.reasons.Reason.TheVariants.{ByStart, Nothing}
 
 -- the lowest initial state that the case lacks, by the test whether the case contains I
 module _ (initial case : ℕ) (contains : Bool) (test : contains ≡ subset initial case) where
-  pub start-inside : contains ≡ true → reasonOf Nothing ≡ absentReason (lowestAbsent initial case)
-  unfolding reasonOf absentReason
-  start-inside t = sym (ap absentReason (lowest-none initial case (sym test ∙ t)))
+  pub start_inside : contains ≡ true → reason_of Nothing ≡ absent_reason (lowest_absent initial case)
+  unfolding reason_of absent_reason
+  start_inside t = sym (ap absent_reason (lowest_none initial case (sym test ∙ t)))
 
-  pub start-lacking : contains ≡ false → subset initial case ≡ false
-  start-lacking f = sym test ∙ f
+  pub start_lacking : contains ≡ false → subset initial case ≡ false
+  start_lacking f = sym test ∙ f
 
-pub start-absent : (initial case : ℕ) (q : State) → lowestAbsent initial case ≡ some q.0
-    → reasonOf (ByStart q) ≡ absentReason (lowestAbsent initial case)
-unfolding reasonOf absentReason
-start-absent initial case q e = sym (ap absentReason e)
+pub start_absent : (initial case : ℕ) (q : State) → lowest_absent initial case ≡ some q.0
+    → reason_of (ByStart q) ≡ absent_reason (lowest_absent initial case)
+unfolding reason_of absent_reason
+start_absent initial case q e = sym (ap absent_reason e)
 
-module _ (initial : ℕ) (table : List Blocker) (level case : ℕ) (bottom : Bool) (at-bottom : bottom ≡ eqb level 0) (r : Reason) where
-  pub why-bottom : bottom ≡ true → reasonOf r ≡ absentReason (lowestAbsent initial case) → reasonOf r ≡ why initial table level case
+module _ (initial : ℕ) (table : List Blocker) (level case : ℕ) (bottom : Bool) (at_bottom : bottom ≡ eqb level 0) (r : Reason) where
+  pub why_bottom : bottom ≡ true → reason_of r ≡ absent_reason (lowest_absent initial case) → reason_of r ≡ why initial table level case
   unfolding why
-  why-bottom t e = e ∙ sym (rw (eqb-true level 0 (sym at-bottom ∙ t)))
+  why_bottom t e = e ∙ sym (rw (eqb-true level 0 (sym at_bottom ∙ t)))
 
-  pub why-above : bottom ≡ false → reasonOf r ≡ firstCovering level case 0 table → reasonOf r ≡ why initial table level case
+  pub why_above : bottom ≡ false → reason_of r ≡ first_covering level case 0 table → reason_of r ≡ why initial table level case
   unfolding why
-  why-above f e = e ∙ above level (eqb-false level 0 (sym at-bottom ∙ f))
+  why_above f e = e ∙ above level (eqb-false level 0 (sym at_bottom ∙ f))
     where
-      above : (i : ℕ) → (i ≡ 0 → ⊥) → firstCovering i case 0 table ≡ why initial table i case
+      above : (i : ℕ) → (i ≡ 0 → ⊥) → first_covering i case 0 table ≡ why initial table i case
       above zero n = absurd (n refl)
       above (suc i) n = refl
 
 -- a case is blocked exactly if there is a reason
-pub blocked-told : (initial : ℕ) (table : List Blocker) (level case : ℕ) (r : Reason) (told : Bool)
-    → reasonOf r ≡ why initial table level case → told ≡ isReason (reasonOf r) → told ≡ blocked initial table level case
-blocked-told initial table level case r told e t = t ∙ ap isReason e ∙ blocked-by-reason initial table level case
+pub blocked_told : (initial : ℕ) (table : List Blocker) (level case : ℕ) (r : Reason) (told : Bool)
+    → reason_of r ≡ why initial table level case → told ≡ is_reason (reason_of r) → told ≡ blocked initial table level case
+blocked_told initial table level case r told e t = t ∙ ap is_reason e ∙ blocked_by_reason initial table level case

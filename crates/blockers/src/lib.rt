@@ -6,10 +6,10 @@ pub mod sizes; // sizes.rt: from which sizes on tables of one's own pay
 ghost use Rattle.std.specs.Prelude.{◌≡◌, ◌+◌, ◌≤◌, ◌<◌, length, get_or, take, drop, leb, eqb};
 ghost use Rattle.lists.specs.Tests.{◌and◌, ◌or◌, neg};
 ghost use Rattle.lists.specs.Lists.{any};
-ghost use Rattle.machine.specs.Machine.{covers as coversCase};
-ghost use Rattle.machine.specs.Lent.{EvenRoom, blockerOf};
-ghost use Rattle.machine.specs.Lending.{roomNow, roomBefore, roomAfter};
-ghost use Rattle.blockers.specs.Room.{HoldsRoom, put_at, clearedBetween, ClosedUp, Enters, RisesAt, Frames};
+ghost use Rattle.machine.specs.Machine.{covers as covers_case};
+ghost use Rattle.machine.specs.Lent.{EvenRoom, blocker_of};
+ghost use Rattle.machine.specs.Lending.{room_now, room_before, room_after};
+ghost use Rattle.blockers.specs.Room.{HoldsRoom, put_at, cleared_between, ClosedUp, Enters, RisesAt, Frames};
 
 // A level's number.
 #[derive(Drop)]
@@ -55,7 +55,7 @@ fn one_of_four(a: bool, b: bool, c: bool, d: bool) -> bool
 
 // Whether the blocker, a mask with its level, is of level `least` or more and the case is a subset of it.
 fn covers(mask: u64, level: Level, least: Level, case: u64) -> bool
-    ensures { result ≡ coversCase least.0 case (blockerOf mask level.0) }
+    ensures { result ≡ covers_case least.0 case (blocker_of mask level.0) }
 {
     both(least.is_at_most(level), masks::subset(case, mask))
 }
@@ -110,8 +110,8 @@ fn put(
     level: Level,
     step: u64,
 )
-    requires { HoldsRoom (place + 1) (roomNow masks levels entered) }
-    ensures { roomAfter masks levels entered ≡ put_at (record { mask = mask; level = level.0; entered = step }) place (roomBefore masks levels entered) }
+    requires { HoldsRoom (place + 1) (room_now masks levels entered) }
+    ensures { room_after masks levels entered ≡ put_at (record { mask = mask; level = level.0; entered = step }) place (room_before masks levels entered) }
 {
     masks[place] = mask;
     levels[place] = level.0;
@@ -126,8 +126,8 @@ pub fn clear_between(
     from: usize,
     to: usize,
 )
-    requires { HoldsRoom to (roomNow masks levels entered) }
-    ensures { roomAfter masks levels entered ≡ clearedBetween from to (roomBefore masks levels entered) }
+    requires { HoldsRoom to (room_now masks levels entered) }
+    ensures { room_after masks levels entered ≡ cleared_between from to (room_before masks levels entered) }
 {
     let mut i = from;
     while i < to {
@@ -149,8 +149,8 @@ fn close_up(
     mask: u64,
     level: Level,
 ) -> usize
-    requires { (start ≤ from) × (from ≤ to) × HoldsRoom to (roomNow masks levels entered) }
-    ensures { ClosedUp (blockerOf mask level.0) start from to result (roomBefore masks levels entered) (roomAfter masks levels entered) }
+    requires { (start ≤ from) × (from ≤ to) × HoldsRoom to (room_now masks levels entered) }
+    ensures { ClosedUp (blocker_of mask level.0) start from to result (room_before masks levels entered) (room_after masks levels entered) }
 {
     let mut kept = start;
     let mut i = from;
@@ -193,8 +193,8 @@ pub fn enter(
     level: Level,
     step: u64,
 ) -> Entered
-    requires { HoldsRoom held (roomNow masks levels entered) × EvenRoom (roomNow masks levels entered) }
-    ensures { Enters held (record { mask = mask; level = level.0; entered = step }) (roomBefore masks levels entered) result (roomAfter masks levels entered) }
+    requires { HoldsRoom held (room_now masks levels entered) × EvenRoom (room_now masks levels entered) }
+    ensures { Enters held (record { mask = mask; level = level.0; entered = step }) (room_before masks levels entered) result (room_after masks levels entered) }
 {
     let end = close_up(masks, levels, entered, 0, 0, held, mask, level);
     if masks.len() <= end {
@@ -219,8 +219,8 @@ pub fn rise(
     held: usize,
     place: usize,
 ) -> Kept
-    requires { HoldsRoom held (roomNow masks levels entered) × (place < held) × (get_or levels.old place 0 < 4294967295) }
-    ensures { RisesAt held place (roomBefore masks levels entered) result.held result.place (roomAfter masks levels entered) }
+    requires { HoldsRoom held (room_now masks levels entered) × (place < held) × (get_or levels.old place 0 < 4294967295) }
+    ensures { RisesAt held place (room_before masks levels entered) result.held result.place (room_after masks levels entered) }
 {
     let mask = masks[place];
     let level = Level(levels[place]).above();
@@ -251,8 +251,8 @@ pub fn frame(
     held: usize,
     level: Level,
 ) -> usize
-    requires { HoldsRoom held (roomNow masks levels entered) }
-    ensures { Frames held level.0 (roomBefore masks levels entered) result (roomAfter masks levels entered) }
+    requires { HoldsRoom held (room_now masks levels entered) }
+    ensures { Frames held level.0 (room_before masks levels entered) result (room_after masks levels entered) }
 {
     close_up(
         masks,

@@ -7,5 +7,5 @@ pub record Chained (key : ℕ → ℕ) (count : ℕ) (lasts links : List ℕ) : 
   pub tells : (k p : ℕ) → get_or lasts k 0 ≡ suc p → (p < count) × (key p ≡ k)
   pub last : (p : ℕ) → p < count → p < get_or lasts (key p) 0
   -- a link tells the one before it
-  pub links-to : (p o : ℕ) → p < count → get_or links p 0 ≡ suc o → (o < p) × (key o ≡ key p)
+  pub links_to : (p o : ℕ) → p < count → get_or links p 0 ≡ suc o → (o < p) × (key o ≡ key p)
   pub nearest : (p o : ℕ) → p < count → o < p → key o ≡ key p → o < get_or links p 0

@@ -47,9 +47,9 @@ abbrev pub others : {X : Type 0} (n : ℕ) → Row X (suc n) → Row X n
 others zero xs = tt
 others (suc n) xs = xs.0 ▹ others n xs.1
 
-abbrev pub with-last : {X : Type 0} (n : ℕ) → Row X (suc n) → X → Row X (suc n)
-with-last zero xs y = y ▹ tt
-with-last (suc n) xs y = xs.0 ▹ with-last n xs.1 y
+abbrev pub with_last : {X : Type 0} (n : ℕ) → Row X (suc n) → X → Row X (suc n)
+with_last zero xs y = y ▹ tt
+with_last (suc n) xs y = xs.0 ▹ with_last n xs.1 y
 
 -- a function's locals: where each lies, and with its type
 abbrev pub Blocks : List Local → Type 0
@@ -64,12 +64,12 @@ abbrev pub backwards : ℕ → ℕ → List ℕ
 backwards k zero = []
 backwards k (suc n) = (k + 2 * n) ∷ suc (k + 2 * n) ∷ backwards k n
 
-abbrev from-then-0 : ℕ → ℕ → List ℕ
-from-then-0 k zero = 0 ∷ []
-from-then-0 k (suc n) = k ∷ from-then-0 (suc k) n
+abbrev from_then_0 : ℕ → ℕ → List ℕ
+from_then_0 k zero = 0 ∷ []
+from_then_0 k (suc n) = k ∷ from_then_0 (suc k) n
 
 abbrev pub behind : ℕ → List ℕ
-behind n = from-then-0 1 n
+behind n = from_then_0 1 n
 
 module _ {M : Type 1} {𝓤 : Ura M} where
   abbrev allocated : (ls : List Local) → Blocks ls → List (Item 𝓤) → List (Item 𝓤)
@@ -96,8 +96,8 @@ module _ {M : Type 1} {𝓤 : Ura M} {𝓛 : Logic 𝓤} {K : Type 0} where
 
 -- statements on locals
 module _ {M : Type 1} (𝓤 : Ura M) (H : Heap 𝓤) (E : Env 𝓤 H) (i : ℕ) where
-  abbrev roomOf : Item 𝓤
-  roomOf = ‵ (froom (spot_of 𝓤 H E i).0 (spot_of 𝓤 H E i).1 zero)
+  abbrev room_of : Item 𝓤
+  room_of = ‵ (froom (spot_of 𝓤 H E i).0 (spot_of 𝓤 H E i).1 zero)
 
   abbrev cell_of : Val → Item 𝓤
   cell_of v = ‵ (fat full_share (spot_of 𝓤 H E i).0 (spot_of 𝓤 H E i).1 zero v)
@@ -109,7 +109,7 @@ module _ {M : Type 1} {𝓤 : Ura M} {𝓛 : Logic 𝓤} {K : Type 0} {Γ : List
   loaded t n e = load t (from t (stop t)) (look t n e)
 
   pub sets : K → {E : Env 𝓤 H} {C : Calls 𝓤 H} {Λ : Loops 𝓤 H} {q : Post 𝓤 H} {i : ℕ} {rv : RValue} {rest : Body} {v : Val} → Rv K 𝓛 Γ E rv v
-      → (n : ℕ) → nth 𝓛 n Γ ≡ roomOf 𝓤 H E i → T (has_ty (spot_of 𝓤 H E i).0 v) × WT v
+      → (n : ℕ) → nth 𝓛 n Γ ≡ room_of 𝓤 H E i → T (has_ty (spot_of 𝓤 H E i).0 v) × WT v
       → Step K 𝓛 (put 𝓛 n (cell_of 𝓤 H E i v) Γ) (runs C Λ E rest q) Γ (runs C Λ E (seq (assign (place i []) rv) rest) q)
   sets t r n e typed = assigns t r (from t (stop t)) (init t n e typed)
 
@@ -163,12 +163,12 @@ module _ {M : Type 1} {𝓤 : Ura M} {𝓛 : Logic 𝓤} where
 
   module _ (α : Lft) (s : Share) where
     pub spared : (n : ℕ) (κs : Row Lft (suc n)) (qs : Row Share (suc n))
-        → Swap 𝓛 (tokens (suc n) (with-last n κs α) (with-last n qs s)) (flft α s) ftrue (tokens n (others n κs) (others n qs))
+        → Swap 𝓛 (tokens (suc n) (with_last n κs α) (with_last n qs s)) (flft α s) ftrue (tokens n (others n κs) (others n qs))
     spared zero κs qs = gone
     spared (suc n) κs qs = deeper ∵ spared n κs.1 qs.1
 
     pub gained : (n : ℕ) (κs : Row Lft (suc n)) (qs : Row Share (suc n))
-        → Swap 𝓛 (tokens n (others n κs) (others n qs)) ftrue (flft α s) (tokens (suc n) (with-last n κs α) (with-last n qs s))
+        → Swap 𝓛 (tokens n (others n κs) (others n qs)) ftrue (flft α s) (tokens (suc n) (with_last n κs α) (with_last n qs s))
     gained zero κs qs = added
     gained (suc n) κs qs = deeper ∵ gained n κs.1 qs.1
 

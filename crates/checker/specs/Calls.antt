@@ -8,12 +8,12 @@ use Rattle.checker.specs.declared.record.Record.{Record}
 use Rattle.checker.specs.declared.step.Called.{Called}
 
 -- the struct as the machine's record
-abbrev pub recordAs : Record → RunRecord
-recordAs lent = record {
+abbrev pub record_as : Record → RunRecord
+record_as lent = record {
   answer = lent.answer;
   steps = lent.steps;
   level = lent.level.0;
-  isOpen = lent.opened;
+  is_open = lent.opened;
   held = lent.held;
   pending = lent.pending;
   blocks = lent.blocks;
@@ -21,15 +21,15 @@ recordAs lent = record {
 }
 
 -- the tables and the record, as they stand between two calls
-abbrev pub stageAs : BlockerRoom → WordRoom → Record → Stage
-stageAs room word lent = record { tables = lent_of room word; run = recordAs lent }
+abbrev pub stage_as : BlockerRoom → WordRoom → Record → Stage
+stage_as room word lent = record { tables = lent_of room word; run = record_as lent }
 
 -- what a call gives back, with what the tables then hold
-abbrev pub calledAs : BlockerRoom → WordRoom → Called → Machine.Called
-calledAs room word called = record { number = called.number; left = stageAs room word called.left }
+abbrev pub called_as : BlockerRoom → WordRoom → Called → Machine.Called
+called_as room word called = record { number = called.number; left = stage_as room word called.left }
 
 -- the rooms have passed their checks
 pub record Checked (room : BlockerRoom) (word : WordRoom) : Type 0 where
-  pub blocker-room : EvenRoom room
+  pub blocker_room : EvenRoom room
   pub word_room : length word.cases ≡ length word.symbols
-  pub few-places : length word.cases ≤ 65536
+  pub few_places : length word.cases ≤ 65536

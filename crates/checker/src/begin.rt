@@ -1,14 +1,14 @@
 // Begin, for every input: all that is lent is checked, and the start is made in tables that hold 0.
 ghost use Rattle.std.specs.Prelude.{◌≡◌, [], ◌∷◌};
 ghost use Rattle.automata.specs.Answers.{ReadAs};
-ghost use Rattle.machine.specs.Machine.{start as machineStart};
+ghost use Rattle.machine.specs.Machine.{start as machine_start};
 ghost use Rattle.machine.specs.Lent.{zeroed};
-ghost use Rattle.machine.specs.Lending.{roomNow, wordNow, lentBefore, lentAfter};
-ghost use Rattle.machine.specs.Runs.{recordOf, aloneRecord};
-ghost use Rattle.machine.specs.Records.{answering, beginOf};
-ghost use Rattle.checker.specs.Stage.{termsOf, recordIn};
+ghost use Rattle.machine.specs.Lending.{room_now, word_now, lent_before, lent_after};
+ghost use Rattle.machine.specs.Runs.{record_of, alone_record};
+ghost use Rattle.machine.specs.Records.{answering, begin_of};
+ghost use Rattle.checker.specs.Stage.{terms_of, record_in};
 ghost use Rattle.checker.specs.Calls.{Checked};
-ghost use Rattle.checker.specs.Moments.{stageAfter, keptAfter};
+ghost use Rattle.checker.specs.Moments.{stage_after, kept_after};
 
 use crate::checks::check_terms;
 use crate::record::{Record, Run};
@@ -17,7 +17,7 @@ use blockers::Level;
 
 // A run that has made no step: this answer, and 0 in the other fields.
 pub fn alone(answer: u8) -> Run
-    ensures { recordIn result ≡ aloneRecord answer }
+    ensures { record_in result ≡ alone_record answer }
 {
     Run {
         answer,
@@ -33,7 +33,7 @@ pub fn alone(answer: u8) -> Run
 
 // The start: where I is a subset of F, 1 with the empty word, in edition 2 5; else a run that works.
 fn start(head: Head, edition: u64) -> Run
-    ensures { recordIn result ≡ recordOf (machineStart head.initial (head.finals ∷ []) edition) }
+    ensures { record_in result ≡ record_of (machine_start head.initial (head.finals ∷ []) edition) }
 {
     if !masks::subset(head.initial, head.finals) {
         return alone(6);
@@ -52,8 +52,8 @@ fn clear_rooms(
     cases: &mut [u64],
     symbols: &mut [u8],
 )
-    requires { Checked (roomNow masks levels entered) (wordNow cases symbols) }
-    ensures { lentAfter masks levels entered cases symbols ≡ zeroed (lentBefore masks levels entered cases symbols) }
+    requires { Checked (room_now masks levels entered) (word_now cases symbols) }
+    ensures { lent_after masks levels entered cases symbols ≡ zeroed (lent_before masks levels entered cases symbols) }
 {
     blockers::clear_between(masks, levels, entered, 0, masks.len());
     wordroom::clear_first(cases, symbols, cases.len());
@@ -73,8 +73,8 @@ pub(crate) fn begin_read(
     way: u64,
 ) -> Run
     requires { ReadAs image.now head }
-    ensures { stageAfter masks levels entered cases symbols result
-        ≡ (beginOf image.now (lentBefore masks levels entered cases symbols) (termsOf hints.now 0 edition way)).left }
+    ensures { stage_after masks levels entered cases symbols result
+        ≡ (begin_of image.now (lent_before masks levels entered cases symbols) (terms_of hints.now 0 edition way)).left }
 {
     let number = check_terms(masks, levels, entered, cases, symbols, hints, edition, way);
     if number != 0 {
@@ -97,8 +97,8 @@ pub fn begin(
     edition: u64,
     way: u64,
 ) -> Record
-    ensures { answering (keptAfter masks levels entered cases symbols result)
-        ≡ beginOf image.now (lentBefore masks levels entered cases symbols) (termsOf hints.now 0 edition way) }
+    ensures { answering (kept_after masks levels entered cases symbols result)
+        ≡ begin_of image.now (lent_before masks levels entered cases symbols) (terms_of hints.now 0 edition way) }
 {
     match automata::image::read_image(image) {
         Image::Refused(number) => alone(number).to_record(),

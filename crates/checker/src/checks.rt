@@ -1,16 +1,16 @@
 // What is refused after the image: the rooms, the terms of a run, and the record of a step.
 ghost use Rattle.std.specs.Prelude.{◌≡◌};
 ghost use Rattle.automata.specs.Image.{check};
-ghost use Rattle.machine.specs.Lending.{lentBefore};
-ghost use Rattle.machine.specs.Runs.{unknownWay, checkTerms};
-ghost use Rattle.machine.specs.Records.{broken as isBroken};
-ghost use Rattle.checker.specs.Calls.{recordAs};
+ghost use Rattle.machine.specs.Lending.{lent_before};
+ghost use Rattle.machine.specs.Runs.{unknown_way, check_terms};
+ghost use Rattle.machine.specs.Records.{broken as is_broken};
+ghost use Rattle.checker.specs.Calls.{record_as};
 
 use crate::record::Record;
 
 // 0, or 37 where the way is neither 0 nor 1.
 fn check_way(way: u64) -> u8
-    ensures { result ≡ check (unknownWay way) 37 0 }
+    ensures { result ≡ check (unknown_way way) 37 0 }
 {
     match way {
         0 => 0,
@@ -31,7 +31,7 @@ pub(crate) fn check_terms(
     edition: u64,
     way: u64,
 ) -> u8
-    ensures { result ≡ checkTerms (lentBefore masks levels entered cases symbols) hints.now edition way 0 }
+    ensures { result ≡ check_terms (lent_before masks levels entered cases symbols) hints.now edition way 0 }
 {
     if masks.len() != levels.len() {
         return 30;
@@ -61,7 +61,7 @@ pub(crate) fn check_terms(
 // Check 33, in rooms of so many places: the answer is above 6, more blockers are held than there is room, the level is above the word room, more cases are
 // pending than there are levels, or more blocks were made or hints accepted than steps.
 pub(crate) fn broken(blockers: usize, word: usize, before: Record) -> bool
-    ensures { result ≡ isBroken (record { blockers = blockers; word = word }) (recordAs before) }
+    ensures { result ≡ is_broken (record { blockers = blockers; word = word }) (record_as before) }
 {
     if 6 < before.answer {
         return true;

@@ -1,7 +1,7 @@
 // What a run carries from one step to the next, inside a call and between calls; the tables are lent beside it.
 ghost use Rattle.std.specs.Prelude.{◌≡◌, ◌≤◌, ◌<◌};
-ghost use Rattle.checker.specs.Stage.{recordIn, left_of, countedOf, blockedOf, Countable};
-ghost use Rattle.checker.specs.Calls.{recordAs};
+ghost use Rattle.checker.specs.Stage.{record_in, left_of, counted_of, blocked_of, Countable};
+ghost use Rattle.checker.specs.Calls.{record_as};
 
 use blockers::Level;
 
@@ -33,7 +33,7 @@ impl Run {
     // The same after one step more.
     pub(crate) fn counted(self, answer: u8, pending: usize) -> Run
         requires { self.steps < 18446744073709551615 }
-        ensures { result ≡ countedOf self answer pending }
+        ensures { result ≡ counted_of self answer pending }
     {
         let mut next = self;
         next.answer = answer;
@@ -45,7 +45,7 @@ impl Run {
     // The run after a block that left `held` blockers and so many cases pending; `hinted` is 1 if it took a hint, else 0.
     pub(crate) fn blocked(self, held: usize, pending: usize, hinted: u64) -> Run
         requires { Countable self hinted }
-        ensures { result ≡ blockedOf self held pending hinted }
+        ensures { result ≡ blocked_of self held pending hinted }
     {
         let mut next = self.counted(6, pending);
         next.held = held;
@@ -56,7 +56,7 @@ impl Run {
 
     // The record that its owner keeps until the next step.
     pub(crate) fn to_record(self) -> Record
-        ensures { recordAs result ≡ recordIn self }
+        ensures { record_as result ≡ record_in self }
     {
         let level = self.level;
         Record {
@@ -93,7 +93,7 @@ impl Record {
     // The run that a record stands for, where its answer and its level have passed the check.
     pub(crate) fn to_run(self) -> Run
         requires { (self.answer ≤ 6) × (self.level.0 ≤ 65536) }
-        ensures { recordIn result ≡ recordAs self }
+        ensures { record_in result ≡ record_as self }
     {
         let level = self.level;
         Run {

@@ -1,10 +1,10 @@
 // A whole run, for every input: begin, then steps until it has ended.
 ghost use Rattle.std.specs.Prelude.{◌≡◌};
 ghost use Rattle.automata.specs.Answers.{ReadAs};
-ghost use Rattle.machine.specs.Lending.{lentBefore};
+ghost use Rattle.machine.specs.Lending.{lent_before};
 ghost use Rattle.machine.specs.Runs.{run_of};
-ghost use Rattle.checker.specs.Stage.{termsOf};
-ghost use Rattle.checker.specs.Moments.{stageAfter};
+ghost use Rattle.checker.specs.Stage.{terms_of};
+ghost use Rattle.checker.specs.Moments.{stage_after};
 
 use crate::begin::{alone, begin_read};
 use crate::record::Run;
@@ -26,8 +26,8 @@ fn run_read(
     way: u64,
 ) -> Run
     requires { ReadAs image.now head }
-    ensures { stageAfter masks levels entered cases symbols result
-        ≡ run_of image.now (lentBefore masks levels entered cases symbols) (termsOf hints.now allowance edition way) }
+    ensures { stage_after masks levels entered cases symbols result
+        ≡ run_of image.now (lent_before masks levels entered cases symbols) (terms_of hints.now allowance edition way) }
 {
     let begun = begin_read(
         image, head, masks, levels, entered, cases, symbols, hints, edition, way,
@@ -51,8 +51,8 @@ pub fn run(
     edition: u64,
     way: u64,
 ) -> Run
-    ensures { stageAfter masks levels entered cases symbols result
-        ≡ run_of image.now (lentBefore masks levels entered cases symbols) (termsOf hints.now allowance edition way) }
+    ensures { stage_after masks levels entered cases symbols result
+        ≡ run_of image.now (lent_before masks levels entered cases symbols) (terms_of hints.now allowance edition way) }
 {
     match automata::image::read_image(image) {
         Image::Refused(number) => alone(number),

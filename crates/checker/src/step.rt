@@ -2,8 +2,8 @@
 ghost use Rattle.std.specs.Prelude.{◌≡◌};
 ghost use Rattle.automata.specs.Answers.{ReadAs};
 ghost use Rattle.machine.specs.Records.{step_of};
-ghost use Rattle.checker.specs.Stage.{termsOf};
-ghost use Rattle.checker.specs.Moments.{keptBefore, calledAfter};
+ghost use Rattle.checker.specs.Stage.{terms_of};
+ghost use Rattle.checker.specs.Moments.{kept_before, called_after};
 
 use crate::checks::{broken, check_terms};
 use crate::record::Record;
@@ -33,8 +33,8 @@ fn step_read(
     before: Record,
 ) -> Called
     requires { ReadAs image.now head }
-    ensures { calledAfter masks levels entered cases symbols result
-        ≡ step_of image.now (termsOf hints.now allowance edition way) (keptBefore masks levels entered cases symbols before) }
+    ensures { called_after masks levels entered cases symbols result
+        ≡ step_of image.now (terms_of hints.now allowance edition way) (kept_before masks levels entered cases symbols before) }
 {
     let number = check_terms(masks, levels, entered, cases, symbols, hints, edition, way);
     if number != 0 {
@@ -75,8 +75,8 @@ pub fn step(
     way: u64,
     before: Record,
 ) -> Called
-    ensures { calledAfter masks levels entered cases symbols result
-        ≡ step_of image.now (termsOf hints.now allowance edition way) (keptBefore masks levels entered cases symbols before) }
+    ensures { called_after masks levels entered cases symbols result
+        ≡ step_of image.now (terms_of hints.now allowance edition way) (kept_before masks levels entered cases symbols before) }
 {
     match automata::image::read_image(image) {
         Image::Refused(number) => Called {
@@ -104,8 +104,8 @@ pub fn step_on(
     way: u64,
     kept: &mut Record,
 ) -> u64
-    ensures { calledAfter masks levels entered cases symbols (record { number = result; left = kept.new })
-        ≡ step_of image.now (termsOf hints.now allowance edition way) (keptBefore masks levels entered cases symbols kept.old) }
+    ensures { called_after masks levels entered cases symbols (record { number = result; left = kept.new })
+        ≡ step_of image.now (terms_of hints.now allowance edition way) (kept_before masks levels entered cases symbols kept.old) }
 {
     let called = step(
         image, masks, levels, entered, cases, symbols, hints, allowance, edition, way, *kept,

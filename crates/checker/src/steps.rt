@@ -1,18 +1,18 @@
 // The steps of a run: open, extend, block and close, in 01's order, and the step that is one of them.
 ghost use Rattle.std.specs.Prelude.{◌≡◌, true, false, [], ◌∷◌, suc, ◌+◌, ◌-◌, ◌≤◌, ◌<◌, ltb, length};
 ghost use Rattle.lists.specs.Tests.{choose};
-ghost use Rattle.masks.specs.Sets.{subset as isSubset};
+ghost use Rattle.masks.specs.Sets.{subset as is_subset};
 ghost use Rattle.automata.specs.Answers.{ReadAs};
-ghost use Rattle.machine.specs.Machine.{finalPending, pendingAfter, blockStep, word_of, step as machineStep};
-ghost use Rattle.machine.specs.Lent.{blockersFrom, pendingFirst, withPending, withWord};
-ghost use Rattle.machine.specs.Lending.{roomNow, roomBefore, roomAfter, unstampedBefore, blockersBefore, wordNow, wordBefore, wordAfter};
-ghost use Rattle.machine.specs.Runs.{systemOf, stepGiven};
-ghost use Rattle.machine.specs.Records.{workingStep};
+ghost use Rattle.machine.specs.Machine.{final_pending, pending_after, block_step, word_of, step as machine_step};
+ghost use Rattle.machine.specs.Lent.{blockers_from, pending_first, with_pending, with_word};
+ghost use Rattle.machine.specs.Lending.{room_now, room_before, room_after, unstamped_before, blockers_before, word_now, word_before, word_after};
+ghost use Rattle.machine.specs.Runs.{system_of, step_given};
+ghost use Rattle.machine.specs.Records.{working_step};
 ghost use Rattle.blockers.specs.Room.{Holds, HoldsRoom};
 ghost use Rattle.choices.specs.Found.{choice_of};
 ghost use Rattle.wordroom.specs.Room.{Holds as HoldsWord};
-ghost use Rattle.checker.specs.Stage.{wentOn, choicesOf, madeBy, block_of, Ready, left_of, countedOf, Leaves, Opened, Unpends, Extended, ClosesLevel, Pends, Countable};
-ghost use Rattle.checker.specs.Moments.{stageNow, stageBefore, stageAfter};
+ghost use Rattle.checker.specs.Stage.{went_on, choices_of, made_by, block_of, Ready, left_of, counted_of, Leaves, Opened, Unpends, Extended, ClosesLevel, Pends, Countable};
+ghost use Rattle.checker.specs.Moments.{stage_now, stage_before, stage_after};
 
 use crate::record::Run;
 use automata::image::{Head, Symbol};
@@ -21,8 +21,8 @@ use choices::{Choice, Found};
 
 // The run ends without a verdict, under the number of what it lacks: nothing stays pending.
 fn stop(cases: &mut [u64], symbols: &mut [u8], run: Run, number: u8) -> Run
-    requires { HoldsWord run.pending (wordNow cases symbols) }
-    ensures { Leaves (left_of run number 0) (withWord run.pending [] (wordBefore cases symbols)) result (wordAfter cases symbols) }
+    requires { HoldsWord run.pending (word_now cases symbols) }
+    ensures { Leaves (left_of run number 0) (with_word run.pending [] (word_before cases symbols)) result (word_after cases symbols) }
 {
     wordroom::clear_first(cases, symbols, run.pending);
     run.left(number, 0)
@@ -38,8 +38,8 @@ fn pend_final(
     cases: &mut [u64],
     symbols: &mut [u8],
 ) -> usize
-    requires { HoldsWord 1 (wordNow cases symbols) }
-    ensures { Pends 0 (finalPending initial (finals ∷ []) (blockersBefore masks levels) level.0) result (wordBefore cases symbols) (wordAfter cases symbols) }
+    requires { HoldsWord 1 (word_now cases symbols) }
+    ensures { Pends 0 (final_pending initial (finals ∷ []) (blockers_before masks levels) level.0) result (word_before cases symbols) (word_after cases symbols) }
 {
     if blockers::reasons::why(initial, masks, levels, level, finals).is_there() {
         return 0;
@@ -59,9 +59,9 @@ fn pend_after(
     symbols: &mut [u8],
     rest: usize,
 ) -> usize
-    requires { HoldsWord (rest + 1) (wordNow cases symbols) }
-    ensures { Pends rest (pendingAfter initial (finals ∷ []) (blockersBefore masks levels) level.0
-        (pendingFirst (wordBefore cases symbols) rest)) result (wordBefore cases symbols) (wordAfter cases symbols) }
+    requires { HoldsWord (rest + 1) (word_now cases symbols) }
+    ensures { Pends rest (pending_after initial (finals ∷ []) (blockers_before masks levels) level.0
+        (pending_first (word_before cases symbols) rest)) result (word_before cases symbols) (word_after cases symbols) }
 {
     if rest == 0 {
         return pend_final(initial, finals, masks, levels, level, cases, symbols);
@@ -81,8 +81,8 @@ fn open_level(
     requires { Holds run.held masks.now levels.now × (length cases.old ≡ length symbols.old)
         × (length cases.old ≤ 65536) × (run.pending ≡ 0) × (run.steps < 18446744073709551615) }
     ensures { Opened (ltb run.level.0 (length cases.old)) run
-        (finalPending head.initial (head.finals ∷ []) (blockersFrom (unstampedBefore masks levels) run.held 0) (run.level.0 + 1))
-        (wordBefore cases symbols) result (wordAfter cases symbols) }
+        (final_pending head.initial (head.finals ∷ []) (blockers_from (unstamped_before masks levels) run.held 0) (run.level.0 + 1))
+        (word_before cases symbols) result (word_after cases symbols) }
 {
     let level = run.level;
     if cases.len() <= level.0 as usize {
@@ -107,10 +107,10 @@ fn open_level(
 
 // The backward set of the lowest pending case contains I: the run ends with the word.
 fn find_word(cases: &mut [u64], symbols: &mut [u8], run: Run, symbol: Symbol) -> Run
-    requires { HoldsWord run.pending (wordNow cases symbols) × (1 ≤ run.pending) × (run.steps < 18446744073709551615) }
-    ensures { Leaves (countedOf run 1 0)
-        (withWord run.pending (symbol.0 ∷ word_of (pendingFirst (wordBefore cases symbols) run.pending))
-        (wordBefore cases symbols)) result (wordAfter cases symbols) }
+    requires { HoldsWord run.pending (word_now cases symbols) × (1 ≤ run.pending) × (run.steps < 18446744073709551615) }
+    ensures { Leaves (counted_of run 1 0)
+        (with_word run.pending (symbol.0 ∷ word_of (pending_first (word_before cases symbols) run.pending))
+        (word_before cases symbols)) result (word_after cases symbols) }
 {
     wordroom::write_word(cases, symbols, run.pending, symbol);
     run.counted(1, 0)
@@ -118,10 +118,10 @@ fn find_word(cases: &mut [u64], symbols: &mut [u8], run: Run, symbol: Symbol) ->
 
 // The backward set becomes pending, below the others.
 fn pend_more(cases: &mut [u64], symbols: &mut [u8], run: Run, symbol: Symbol, case: u64) -> Run
-    requires { HoldsWord (run.pending + 1) (wordNow cases symbols) × (run.steps < 18446744073709551615) }
-    ensures { Leaves (countedOf run 6 (run.pending + 1))
-        (withPending run.pending (record { case = case; symbol = symbol.0 } ∷ pendingFirst (wordBefore cases symbols) run.pending)
-        (wordBefore cases symbols)) result (wordAfter cases symbols) }
+    requires { HoldsWord (run.pending + 1) (word_now cases symbols) × (run.steps < 18446744073709551615) }
+    ensures { Leaves (counted_of run 6 (run.pending + 1))
+        (with_pending run.pending (record { case = case; symbol = symbol.0 } ∷ pending_first (word_before cases symbols) run.pending)
+        (word_before cases symbols)) result (word_after cases symbols) }
 {
     let count = run.pending;
     wordroom::push(cases, symbols, count, case, symbol);
@@ -137,10 +137,10 @@ fn extend(
     symbol: Symbol,
     case: u64,
 ) -> Run
-    requires { HoldsWord run.pending (wordNow cases symbols) × (1 ≤ run.pending) × (run.steps < 18446744073709551615)
-        × (isSubset initial case ≡ false → HoldsWord (run.pending + 1) (wordNow cases symbols)) }
-    ensures { Extended (isSubset initial case) run (record { case = case; symbol = symbol.0 }) (pendingFirst (wordBefore cases symbols) run.pending)
-        (wordBefore cases symbols) result (wordAfter cases symbols) }
+    requires { HoldsWord run.pending (word_now cases symbols) × (1 ≤ run.pending) × (run.steps < 18446744073709551615)
+        × (is_subset initial case ≡ false → HoldsWord (run.pending + 1) (word_now cases symbols)) }
+    ensures { Extended (is_subset initial case) run (record { case = case; symbol = symbol.0 }) (pending_first (word_before cases symbols) run.pending)
+        (word_before cases symbols) result (word_after cases symbols) }
 {
     if masks::subset(initial, case) {
         return find_word(cases, symbols, run, symbol);
@@ -159,11 +159,11 @@ fn unpend(
     held: usize,
     hinted: u64,
 ) -> Run
-    requires { Holds held masks.now levels.now × HoldsWord run.pending (wordNow cases symbols) × (1 ≤ run.pending) × Countable run hinted }
+    requires { Holds held masks.now levels.now × HoldsWord run.pending (word_now cases symbols) × (1 ≤ run.pending) × Countable run hinted }
     ensures { Unpends run held hinted
-        (pendingAfter head.initial (head.finals ∷ []) (blockersFrom (unstampedBefore masks levels) held 0) run.level.0
-        (pendingFirst (wordBefore cases symbols) (run.pending - 1)))
-        (wordBefore cases symbols) result (wordAfter cases symbols) }
+        (pending_after head.initial (head.finals ∷ []) (blockers_from (unstamped_before masks levels) held 0) run.level.0
+        (pending_first (word_before cases symbols) (run.pending - 1)))
+        (word_before cases symbols) result (word_after cases symbols) }
 {
     let rest = run.pending - 1;
     wordroom::pop(cases, symbols, run.pending);
@@ -193,10 +193,10 @@ fn enter_chosen(
     below: Level,
     choice: Choice,
 ) -> Run
-    requires { Ready (stageNow masks levels entered cases symbols run) × (1 ≤ run.pending) × (below.0 < 65536) × Countable run choice.hinted }
-    ensures { stageAfter masks levels entered cases symbols result
-        ≡ madeBy (λ c. blockStep head.initial (head.finals ∷ []) c (pendingFirst (wordBefore cases symbols) (run.pending - 1)) below.0 (choice_of choice))
-        (stageBefore masks levels entered cases symbols run) }
+    requires { Ready (stage_now masks levels entered cases symbols run) × (1 ≤ run.pending) × (below.0 < 65536) × Countable run choice.hinted }
+    ensures { stage_after masks levels entered cases symbols result
+        ≡ made_by (λ c. block_step head.initial (head.finals ∷ []) c (pending_first (word_before cases symbols) (run.pending - 1)) below.0 (choice_of choice))
+        (stage_before masks levels entered cases symbols run) }
 {
     let answer = blockers::enter(
         masks,
@@ -237,10 +237,10 @@ fn block(
     below: Level,
     x: u64,
 ) -> Run
-    requires { ReadAs image.now head × Ready (stageNow masks levels entered cases symbols run) × (1 ≤ run.pending) × (below.0 < 65536) × (run.steps < 18446744073709551615) }
-    ensures { stageAfter masks levels entered cases symbols result
-        ≡ madeBy (block_of image.now hints.now way (pendingFirst (wordBefore cases symbols) (run.pending - 1)) below.0 x)
-        (stageBefore masks levels entered cases symbols run) }
+    requires { ReadAs image.now head × Ready (stage_now masks levels entered cases symbols run) × (1 ≤ run.pending) × (below.0 < 65536) × (run.steps < 18446744073709551615) }
+    ensures { stage_after masks levels entered cases symbols result
+        ≡ made_by (block_of image.now hints.now way (pending_first (word_before cases symbols) (run.pending - 1)) below.0 x)
+        (stage_before masks levels entered cases symbols run) }
 {
     let held = run.held;
     let choice = choices::choose_set(
@@ -272,10 +272,10 @@ fn work(
     way: u64,
     run: Run,
 ) -> Run
-    requires { ReadAs image.now head × Ready (stageNow masks levels entered cases symbols run) × (1 ≤ run.pending) × (run.steps < 18446744073709551615) }
-    ensures { stageAfter masks levels entered cases symbols result
-        ≡ madeBy (machineStep (systemOf image.now) (choicesOf image.now hints.now way))
-        (stageBefore masks levels entered cases symbols run) }
+    requires { ReadAs image.now head × Ready (stage_now masks levels entered cases symbols run) × (1 ≤ run.pending) × (run.steps < 18446744073709551615) }
+    ensures { stage_after masks levels entered cases symbols result
+        ≡ made_by (machine_step (system_of image.now) (choices_of image.now hints.now way))
+        (stage_before masks levels entered cases symbols run) }
 {
     let x = cases[run.pending - 1];
     let below = Level(run.level.0 - run.pending as u32);
@@ -305,8 +305,8 @@ fn close_level(
     entered: &mut [u64],
     run: Run,
 ) -> Run
-    requires { ReadAs image.now head × HoldsRoom run.held (roomNow masks levels entered) × (run.level.0 < 4294967295) × (run.steps < 18446744073709551615) }
-    ensures { ClosesLevel (systemOf image.now) run result (roomBefore masks levels entered) (roomAfter masks levels entered) }
+    requires { ReadAs image.now head × HoldsRoom run.held (room_now masks levels entered) × (run.level.0 < 4294967295) × (run.steps < 18446744073709551615) }
+    ensures { ClosesLevel (system_of image.now) run result (room_before masks levels entered) (room_after masks levels entered) }
 {
     let level = run.level;
     let closed = closing::close(image, head, masks, levels, entered, run.held, level);
@@ -331,10 +331,10 @@ fn working_step(
     allowance: u64,
     way: u64,
 ) -> Run
-    requires { ReadAs image.now head × Ready (stageNow masks levels entered cases symbols run) }
-    ensures { stageAfter masks levels entered cases symbols result
-        ≡ workingStep image.now (stepGiven image.now hints.now allowance way)
-        (stageBefore masks levels entered cases symbols run) }
+    requires { ReadAs image.now head × Ready (stage_now masks levels entered cases symbols run) }
+    ensures { stage_after masks levels entered cases symbols result
+        ≡ working_step image.now (step_given image.now hints.now allowance way)
+        (stage_before masks levels entered cases symbols run) }
 {
     if allowance <= run.steps {
         return stop(cases, symbols, run, 2);
@@ -365,10 +365,10 @@ pub(crate) fn go_on(
     way: u64,
     more: u64,
 ) -> Run
-    requires { ReadAs image.now head × (run.answer ≡ 6 → Ready (stageNow masks levels entered cases symbols run)) }
-    ensures { stageAfter masks levels entered cases symbols result
-        ≡ wentOn image.now (stepGiven image.now hints.now allowance way) (suc more)
-        (stageBefore masks levels entered cases symbols run) }
+    requires { ReadAs image.now head × (run.answer ≡ 6 → Ready (stage_now masks levels entered cases symbols run)) }
+    ensures { stage_after masks levels entered cases symbols result
+        ≡ went_on image.now (step_given image.now hints.now allowance way) (suc more)
+        (stage_before masks levels entered cases symbols run) }
 {
     let mut next = run;
     let mut left = more;

@@ -8,9 +8,9 @@ use Rattle.choices.specs.declared.Found.TheVariants.{At, Nothing}
 use Rattle.choices.specs.declared.Choice.{Choice}
 
 -- the symbol with its backward set, or that there is none
-unfoldable pub foundOf : System → ℕ → Option ℕ → Found
-foundOf S X none = Nothing
-foundOf S X (some s) = At (record { 0 = s }) (S.backward s X)
+unfoldable pub found_of : System → ℕ → Option ℕ → Found
+found_of S X none = Nothing
+found_of S X (some s) = At (record { 0 = s }) (S.backward s X)
 
 -- the answer as the machine's choice
 abbrev pub choice_of : Choice → Machine.Choice

@@ -1,14 +1,14 @@
 // The machine's choices: the symbol that extends a pending case, and the set that blocks it. Masks and levels are the part of the blocker room that is in
 // use.
 ghost use Rattle.std.specs.Prelude.{◌≡◌, length};
-ghost use Rattle.lists.specs.Lists.{firstFrom};
-ghost use Rattle.automata.specs.Image.{symbolsOf, rows_of};
+ghost use Rattle.lists.specs.Lists.{first_from};
+ghost use Rattle.automata.specs.Image.{symbols_of, rows_of};
 ghost use Rattle.automata.specs.Answers.{ReadAs};
-ghost use Rattle.machine.specs.Machine.{qualifies, chosenFrom, hintAt};
-ghost use Rattle.machine.specs.Lending.{blockersBefore};
-ghost use Rattle.machine.specs.Runs.{systemOf};
-ghost use Rattle.machine.specs.Hitting.{growthOf};
-ghost use Rattle.choices.specs.Found.{foundOf, choice_of};
+ghost use Rattle.machine.specs.Machine.{qualifies, chosen_from, hint_at};
+ghost use Rattle.machine.specs.Lending.{blockers_before};
+ghost use Rattle.machine.specs.Runs.{system_of};
+ghost use Rattle.machine.specs.Hitting.{growth_of};
+ghost use Rattle.choices.specs.Found.{found_of, choice_of};
 
 use automata::backward::backward;
 use automata::image::{Head, Symbol};
@@ -38,9 +38,9 @@ pub fn first_symbol(
     x: u64,
 ) -> Found
     requires { ReadAs image.now head × (length masks.now ≡ length levels.now) }
-    ensures { result ≡ foundOf (systemOf image.now) x
-        (firstFrom (qualifies (systemOf image.now) (blockersBefore masks levels) below.0 x)
-        (symbolsOf image.now) 0) }
+    ensures { result ≡ found_of (system_of image.now) x
+        (first_from (qualifies (system_of image.now) (blockers_before masks levels) below.0 x)
+        (symbols_of image.now) 0) }
 {
     'symbols: for s in 0..head.symbols {
         let symbol = Symbol(s);
@@ -77,8 +77,8 @@ fn grow(
     way: u64,
 ) -> u64
     requires { ReadAs image.now head }
-    ensures { result ≡ growthOf way (systemOf image.now) (rows_of image.now)
-        (blockersBefore masks levels) below.0 x }
+    ensures { result ≡ growth_of way (system_of image.now) (rows_of image.now)
+        (blockers_before masks levels) below.0 x }
 {
     if way == 0 {
         return growing::by_states(image, head, masks, levels, below, x);
@@ -99,8 +99,8 @@ pub fn choose_set(
     way: u64,
 ) -> Choice
     requires { ReadAs image.now head }
-    ensures { choice_of result ≡ chosenFrom (systemOf image.now) (growthOf way (systemOf image.now) (rows_of image.now))
-        (blockersBefore masks levels) below.0 x (hintAt hints.now blocks) }
+    ensures { choice_of result ≡ chosen_from (system_of image.now) (growth_of way (system_of image.now) (rows_of image.now))
+        (blockers_before masks levels) below.0 x (hint_at hints.now blocks) }
 {
     let number = blocks as usize;
     if hints.len() <= number {

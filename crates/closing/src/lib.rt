@@ -3,10 +3,10 @@ mod vacancy; // vacancy.rt: the lowest level that holds no blocker
 
 ghost use Rattle.std.specs.Prelude.{◌≤◌, ◌<◌, length};
 ghost use Rattle.automata.specs.Answers.{ReadAs};
-ghost use Rattle.machine.specs.Lending.{roomNow, roomBefore, roomAfter};
+ghost use Rattle.machine.specs.Lending.{room_now, room_before, room_after};
 ghost use Rattle.blockers.specs.Room.{HoldsRoom, table_of};
-ghost use Rattle.machine.specs.Runs.{systemOf};
-ghost use Rattle.rising.specs.Risen.{risenBy, Becomes};
+ghost use Rattle.machine.specs.Runs.{system_of};
+ghost use Rattle.rising.specs.Risen.{risen_by, Becomes};
 ghost use Rattle.closing.specs.Close.{Closes};
 ghost use Rattle.closing.specs.ByIndex.{NoneLeft};
 
@@ -48,9 +48,9 @@ fn rise_all(
     held: usize,
     top: Level,
 ) -> usize
-    requires { ReadAs image.now head × HoldsRoom held (roomNow masks levels entered) × (top.0 < 4294967295) }
-    ensures { Becomes held (risenBy (systemOf image.now) top.0 (table_of held (roomBefore masks levels entered)))
-        (roomBefore masks levels entered) result (roomAfter masks levels entered) }
+    requires { ReadAs image.now head × HoldsRoom held (room_now masks levels entered) × (top.0 < 4294967295) }
+    ensures { Becomes held (risen_by (system_of image.now) top.0 (table_of held (room_before masks levels entered)))
+        (room_before masks levels entered) result (room_after masks levels entered) }
 {
     if !is_indexed(levels, held) {
         return rising::rise_levels(image, head, masks, levels, entered, held, top);
@@ -69,9 +69,9 @@ pub fn close(
     held: usize,
     top: Level,
 ) -> Closed
-    requires { ReadAs image.now head × HoldsRoom held (roomNow masks levels entered) × (top.0 < 4294967295) }
-    ensures { Closes (systemOf image.now) top.0 held
-        (roomBefore masks levels entered) result (roomAfter masks levels entered) }
+    requires { ReadAs image.now head × HoldsRoom held (room_now masks levels entered) × (top.0 < 4294967295) }
+    ensures { Closes (system_of image.now) top.0 held
+        (room_before masks levels entered) result (room_after masks levels entered) }
 {
     let count = rise_all(image, head, masks, levels, entered, held, top);
     let Lowest::At(level) = vacancy::lowest_none(&levels[..count], top) else {

@@ -2,8 +2,8 @@
 // in one pass.
 ghost use Rattle.std.specs.Prelude.{◌≡◌, ◌<◌, eqb, length, get_or};
 ghost use Rattle.lists.specs.Tests.{neg};
-ghost use Rattle.lists.specs.Lists.{any, firstFrom};
-ghost use Rattle.closing.specs.Close.{lowestOf};
+ghost use Rattle.lists.specs.Lists.{any, first_from};
+ghost use Rattle.closing.specs.Close.{lowest_of};
 ghost use Rattle.closing.specs.ByIndex.{Marked};
 
 use crate::Lowest;
@@ -38,7 +38,7 @@ fn is_unmarked(marks: &[u8], level: Level) -> bool
 // The lowest level from 1 to `top` that is not marked.
 fn lowest_unmarked(marks: &[u8], top: Level) -> Lowest
     requires { (top.0 < length marks.now) × (top.0 < 4294967295) }
-    ensures { result ≡ lowestOf (firstFrom (λ level. eqb (get_or marks.now level 0) 0) top.0 1) }
+    ensures { result ≡ lowest_of (first_from (λ level. eqb (get_or marks.now level 0) 0) top.0 1) }
 {
     let mut level = Level(1);
     while level.is_at_most(top) {
@@ -53,7 +53,7 @@ fn lowest_unmarked(marks: &[u8], top: Level) -> Lowest
 // The same by a search for each level.
 fn lowest_by_search(levels: &[u32], top: Level) -> Lowest
     requires { top.0 < 4294967295 }
-    ensures { result ≡ lowestOf (firstFrom (λ level. neg (any (λ other. eqb other level) levels.now)) top.0 1) }
+    ensures { result ≡ lowest_of (first_from (λ level. neg (any (λ other. eqb other level) levels.now)) top.0 1) }
 {
     let mut level = Level(1);
     while level.is_at_most(top) {
@@ -68,7 +68,7 @@ fn lowest_by_search(levels: &[u32], top: Level) -> Lowest
 // The lowest level from 1 to `top` that none of these levels is.
 pub fn lowest_none(levels: &[u32], top: Level) -> Lowest
     requires { top.0 < 4294967295 }
-    ensures { result ≡ lowestOf (firstFrom (λ level. neg (any (λ other. eqb other level) levels.now)) top.0 1) }
+    ensures { result ≡ lowest_of (first_from (λ level. neg (any (λ other. eqb other level) levels.now)) top.0 1) }
 {
     if sizes::MARKED_LEVELS <= top.0 {
         if index::wide(top.0) < sizes::MARKS {

@@ -1,9 +1,9 @@
 // The blockers that cover a set, listed once by their masks: what covers a larger set is among them, and they are few. Assumes nothing.
 ghost use Rattle.std.specs.Prelude.{◌≡◌, true, ◌-◌, ◌≤◌, ◌<◌, length};
-ghost use Rattle.machine.specs.Machine.{blocked, settled as isSettled};
-ghost use Rattle.machine.specs.Lent.{blockerAt};
-ghost use Rattle.machine.specs.Lending.{unstampedBefore, blockersNow, blockersBefore};
-ghost use Rattle.covering.specs.Listed.{oneHolds, ListedOne, Listed};
+ghost use Rattle.machine.specs.Machine.{blocked, settled as is_settled};
+ghost use Rattle.machine.specs.Lent.{blocker_at};
+ghost use Rattle.machine.specs.Lending.{unstamped_before, blockers_now, blockers_before};
+ghost use Rattle.covering.specs.Listed.{one_holds, ListedOne, Listed};
 
 use blockers::Level;
 use blockers::reasons::{after, count_in, reason_at, skip, why};
@@ -20,7 +20,7 @@ fn list_one(
     place: usize,
 ) -> usize
     requires { (place < length masks.now) × (place < length levels.now) × (length near.old < 65535) × (end ≤ 65535) }
-    ensures { ListedOne below.0 p (blockerAt (unstampedBefore masks levels) place) near.old near.new end result }
+    ensures { ListedOne below.0 p (blocker_at (unstamped_before masks levels) place) near.old near.new end result }
 {
     if near.len() <= end {
         return 65535;
@@ -42,7 +42,7 @@ fn list_covers(
     start: usize,
 ) -> usize
     requires { (start ≤ length near.old) × (length near.old < 65535) }
-    ensures { Listed (blockersBefore masks levels) below.0 p near.old near.new start result }
+    ensures { Listed (blockers_before masks levels) below.0 p near.old near.new start result }
 {
     let count = count_in(masks, levels);
     let mut end = start;
@@ -67,7 +67,7 @@ pub fn list_on(
     start: usize,
 ) -> usize
     requires { length near.old < 65535 }
-    ensures { Listed (blockersBefore masks levels) below.0 p near.old near.new start result }
+    ensures { Listed (blockers_before masks levels) below.0 p near.old near.new start result }
 {
     if near.len() < start {
         return start;
@@ -78,7 +78,7 @@ pub fn list_on(
 // Whether one of the masks from `from` to `to` contains p.
 fn one_contains(near: &[u64], from: usize, to: usize, p: u64) -> bool
     requires { to ≤ length near.now }
-    ensures { result ≡ oneHolds near.now from (to - from) p }
+    ensures { result ≡ one_holds near.now from (to - from) p }
 {
     let mut i = from;
     while i < to {
@@ -102,8 +102,8 @@ pub fn is_settled(
     from: usize,
     to: usize,
 ) -> bool
-    requires { to ≤ length near.now → oneHolds near.now from (to - from) p ≡ blocked initial (blockersNow masks levels) below.0 p }
-    ensures { result ≡ isSettled initial (blockersBefore masks levels) below.0 y p }
+    requires { to ≤ length near.now → one_holds near.now from (to - from) p ≡ blocked initial (blockers_now masks levels) below.0 p }
+    ensures { result ≡ is_settled initial (blockers_before masks levels) below.0 y p }
 {
     if masks::subset(p, y) {
         return true;
@@ -127,9 +127,9 @@ pub fn settled_anew(
     from: usize,
     to: usize,
 ) -> bool
-    requires { (to ≤ length near.now → oneHolds near.now from (to - from) p ≡ blocked initial (blockersNow masks levels) below.0 p)
-        × (p ≡ before → true ≡ isSettled initial (blockersNow masks levels) below.0 y p) }
-    ensures { result ≡ isSettled initial (blockersBefore masks levels) below.0 y p }
+    requires { (to ≤ length near.now → one_holds near.now from (to - from) p ≡ blocked initial (blockers_now masks levels) below.0 p)
+        × (p ≡ before → true ≡ is_settled initial (blockers_now masks levels) below.0 y p) }
+    ensures { result ≡ is_settled initial (blockers_before masks levels) below.0 y p }
 {
     if p == before {
         return true;

@@ -1,16 +1,16 @@
 // The program: reads an image from standard input, decides emptiness, and prints the five numbers of the run and then the frame or the word.
 // Proved of it is which bytes it makes of those that it has read (`report`); that it reads and writes them is tried by running.
 ghost use Rattle.std.specs.Prelude.{◌≡◌, ◌≤◌, length};
-ghost use Rattle.automata.specs.Answers.{imageNumber};
-ghost use Rattle.writing.specs.Rooms.{answer_of, fittedBytes};
-ghost use Rattle.machine.specs.Program.{programPrints};
+ghost use Rattle.automata.specs.Answers.{image_number};
+ghost use Rattle.writing.specs.Rooms.{answer_of, fitted_bytes};
+ghost use Rattle.machine.specs.Program.{program_prints};
 
 use automata::image::Image;
 use writing::Written;
 
 // The number of an image that was taken apart: 0 for one that holds an automaton.
 fn number_of(read: Image) -> u8
-    ensures { result ≡ imageNumber read }
+    ensures { result ≡ image_number read }
 {
     match read {
         Image::Valid(_) => 0,
@@ -21,7 +21,7 @@ fn number_of(read: Image) -> u8
 // Both lines of the run on an image, in the program's rooms. 5,483 bytes are room enough.
 fn report(image: &[u8], room: &mut [u8]) -> Written
     ensures enough { 5483 ≤ length room.old → result.number ≡ 0 }
-    ensures bytes { answer_of result room.new ≡ fittedBytes 0 (programPrints image.now) room.old }
+    ensures bytes { answer_of result room.new ≡ fitted_bytes 0 (program_prints image.now) room.old }
 {
     let mut masks = [0u64; 256];
     let mut levels = [0u32; 256];

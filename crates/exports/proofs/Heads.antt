@@ -2,26 +2,26 @@
 use Prim.Native.Nat.{ℕ}
 use mathlib.Core.Path.{◌≡◌, sym}
 use mathlib.Core.List.{List, [], ◌∷◌}
-use Rattle.automata.specs.Answers.{readImage, imageNumber, headAfter}
+use Rattle.automata.specs.Answers.{read_image, image_number, head_after}
 use Rattle.automata.specs.declared.image.Head.{Head}
 use Rattle.automata.specs.declared.image.Image.{Image}
 use Rattle.automata.specs.declared.image.Image.TheVariants.{Valid, Refused}
 
-module _ (image before : List ℕ) (answer : Image) (read : answer ≡ readImage image) where
+module _ (image before : List ℕ) (answer : Image) (read : answer ≡ read_image image) where
   module _ (number : ℕ) (e : answer ≡ Refused number) where
-    pub number-refused : number ≡ imageNumber (readImage image)
-    unfolding imageNumber
-    number-refused = rw (← read, e)
+    pub number_refused : number ≡ image_number (read_image image)
+    unfolding image_number
+    number_refused = rw (← read, e)
 
-    pub head-refused : before ≡ headAfter before (readImage image)
-    unfolding headAfter
-    head-refused = rw (← read, e)
+    pub head_refused : before ≡ head_after before (read_image image)
+    unfolding head_after
+    head_refused = rw (← read, e)
 
   module _ (head : Head) (e : answer ≡ Valid head) where
-    pub number-valid : 0 ≡ imageNumber (readImage image)
-    unfolding imageNumber
-    number-valid = rw (← read, e)
+    pub number_valid : 0 ≡ image_number (read_image image)
+    unfolding image_number
+    number_valid = rw (← read, e)
 
-    pub head-valid : head.states ∷ head.symbols ∷ head.rows ∷ head.initial ∷ head.finals ∷ [] ≡ headAfter before (readImage image)
-    unfolding headAfter
-    head-valid = sym (rw (← read, e))
+    pub head_valid : head.states ∷ head.symbols ∷ head.rows ∷ head.initial ∷ head.finals ∷ [] ≡ head_after before (read_image image)
+    unfolding head_after
+    head_valid = sym (rw (← read, e))

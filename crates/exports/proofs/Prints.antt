@@ -6,9 +6,9 @@ use Rattle.writing.specs.Rooms.{Answer, answer_of}
 use Rattle.writing.specs.declared.Written.{Written}
 use Rattle.exports.specs.Interface.{Wrote}
 
-pub wrote-is : (made : Written) (room : List ℕ) (answer : Answer) → answer_of made room ≡ answer
+pub wrote_is : (made : Written) (room : List ℕ) (answer : Answer) → answer_of made room ≡ answer
     → Wrote made.number (made.length ∷ []) room answer
-wrote-is made room answer e =
+wrote_is made room answer e =
     record {
       numbered = ap (λ (x : Answer). x.number) e;
       counted = ap (λ (x : Answer). x.written ∷ []) e;

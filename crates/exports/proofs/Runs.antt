@@ -2,12 +2,12 @@
 use mathlib.Core.Path.{◌≡◌, ap}
 use mathlib.Core.List.{[], ◌∷◌}
 use Rattle.machine.specs.Lent.{BlockerRoom, WordRoom, lent_of}
-use Rattle.machine.specs.Runs.{Stage, fiveNumbers}
+use Rattle.machine.specs.Runs.{Stage, five_numbers}
 use Rattle.checker.specs.Stage.{stage}
 use Rattle.checker.specs.declared.record.Run.{Run}
 use Rattle.exports.specs.Interface.{Ran}
 
-pub ran-is : (made : Run) (room : BlockerRoom) (word : WordRoom) (left : Stage) → stage room word made ≡ left
+pub ran_is : (made : Run) (room : BlockerRoom) (word : WordRoom) (left : Stage) → stage room word made ≡ left
     → Ran made.answer (made.steps ∷ made.level.0 ∷ made.held ∷ made.accepted ∷ []) (lent_of room word) left
-unfolding fiveNumbers
-ran-is made room word left e = record { numbered = ap (λ (x : Stage). fiveNumbers x.run) e; holds = ap (λ (x : Stage). x.tables) e }
+unfolding five_numbers
+ran_is made room word left e = record { numbered = ap (λ (x : Stage). five_numbers x.run) e; holds = ap (λ (x : Stage). x.tables) e }

@@ -1,15 +1,15 @@
 // The library's functions for C and Rust, as include/afa.h declares them.
 ghost use Rattle.std.specs.Prelude.{◌≡◌};
-ghost use Rattle.automata.specs.Answers.{readImage, imageNumber, headAfter};
-ghost use Rattle.automata.specs.WordTest.{wordTest};
-ghost use Rattle.machine.specs.Print.{printRun};
-ghost use Rattle.machine.specs.Lending.{blockersBefore, lentBefore, lentAfter};
+ghost use Rattle.automata.specs.Answers.{read_image, image_number, head_after};
+ghost use Rattle.automata.specs.WordTest.{word_test};
+ghost use Rattle.machine.specs.Print.{print_run};
+ghost use Rattle.machine.specs.Lending.{blockers_before, lent_before, lent_after};
 ghost use Rattle.machine.specs.Why.{why};
 ghost use Rattle.machine.specs.Runs.{run_of};
-ghost use Rattle.machine.specs.Records.{beginOf, step_of};
-ghost use Rattle.checker.specs.Stage.{termsOf};
-ghost use Rattle.checker.specs.Calls.{recordAs};
-ghost use Rattle.exports.specs.Interface.{Wrote, Ran, Told, numbersOf, recordFrom, numbersAfter, BeginGave, StepGave};
+ghost use Rattle.machine.specs.Records.{begin_of, step_of};
+ghost use Rattle.checker.specs.Stage.{terms_of};
+ghost use Rattle.checker.specs.Calls.{record_as};
+ghost use Rattle.exports.specs.Interface.{Wrote, Ran, Told, numbers_of, record_from, numbers_after, BeginGave, StepGave};
 
 use automata::image::Image;
 use blockers::Level;
@@ -19,8 +19,8 @@ use checker::record::{KeptLevel, Record};
 // 0, and n, k, m, I and F in `head`; or the refusing number, and `head` as it was.
 #[unsafe(no_mangle)]
 pub extern "C" fn afa_read(image: &[u8], head: &mut [u64; 5]) -> u64
-    ensures number { result ≡ imageNumber (readImage image.now) }
-    ensures values { head.new ≡ headAfter head.old (readImage image.now) }
+    ensures number { result ≡ image_number (read_image image.now) }
+    ensures values { head.new ≡ head_after head.old (read_image image.now) }
 {
     match automata::image::read_image(image) {
         Image::Refused(number) => number as u64,
@@ -40,7 +40,7 @@ pub extern "C" fn afa_read(image: &[u8], head: &mut [u64; 5]) -> u64
 // 1 where the word is accepted, 0 where it is not; or the number under which the image or the word is refused.
 #[unsafe(no_mangle)]
 pub extern "C" fn afa_accepts(image: &[u8], word: &[u8]) -> u64
-    ensures { result ≡ wordTest image.now word.now }
+    ensures { result ≡ word_test image.now word.now }
 {
     automata::word::word_test(image, word)
 }
@@ -54,7 +54,7 @@ pub extern "C" fn afa_print_run(
     room: &mut [u8],
     length: &mut [u64; 1],
 ) -> u64
-    ensures { Wrote result length.new room.new (printRun image.now word.now room.old) }
+    ensures { Wrote result length.new room.new (print_run image.now word.now room.old) }
 {
     let made = printing::print::print_run(image, word, room);
     *length = [made.length as u64];
@@ -76,8 +76,8 @@ pub extern "C" fn afa_run(
     way: u64,
     counts: &mut [u64; 4],
 ) -> u64
-    ensures { Ran result counts.new (lentAfter masks levels entered cases symbols)
-        (run_of image.now (lentBefore masks levels entered cases symbols) (termsOf hints.now allowance edition way)) }
+    ensures { Ran result counts.new (lent_after masks levels entered cases symbols)
+        (run_of image.now (lent_before masks levels entered cases symbols) (terms_of hints.now allowance edition way)) }
 {
     let made = checker::run::run(
         image, masks, levels, entered, cases, symbols, hints, allowance, edition, way,
@@ -93,7 +93,7 @@ pub extern "C" fn afa_run(
 
 // The eight numbers of a record.
 fn numbers_of(left: Record) -> [u64; 8]
-    ensures { result ≡ numbersOf (recordAs left) }
+    ensures { result ≡ numbers_of (record_as left) }
 {
     let mut open: u64 = 0;
     if left.opened {
@@ -113,7 +113,7 @@ fn numbers_of(left: Record) -> [u64; 8]
 
 // The record of eight numbers.
 fn record_from(numbers: [u64; 8]) -> Record
-    ensures { recordAs result ≡ recordFrom numbers }
+    ensures { record_as result ≡ record_from numbers }
 {
     Record {
         answer: numbers[0],
@@ -129,7 +129,7 @@ fn record_from(numbers: [u64; 8]) -> Record
 
 // The eight numbers after a step: as they were, unless it was made.
 fn numbers_after(before: [u64; 8], number: u64, left: Record) -> [u64; 8]
-    ensures { result ≡ numbersAfter before number (recordAs left) }
+    ensures { result ≡ numbers_after before number (record_as left) }
 {
     if before[0] != 6 {
         return before;
@@ -155,8 +155,8 @@ pub extern "C" fn afa_begin(
     way: u64,
     numbers: &mut [u64; 8],
 ) -> u64
-    ensures { BeginGave result numbers.new (lentAfter masks levels entered cases symbols)
-        (beginOf image.now (lentBefore masks levels entered cases symbols) (termsOf hints.now 0 edition way)) }
+    ensures { BeginGave result numbers.new (lent_after masks levels entered cases symbols)
+        (begin_of image.now (lent_before masks levels entered cases symbols) (terms_of hints.now 0 edition way)) }
 {
     let left = checker::begin::begin(
         image, masks, levels, entered, cases, symbols, hints, edition, way,
@@ -180,9 +180,9 @@ pub extern "C" fn afa_step(
     way: u64,
     numbers: &mut [u64; 8],
 ) -> u64
-    ensures { StepGave numbers.old result numbers.new (lentAfter masks levels entered cases symbols)
-        (step_of image.now (termsOf hints.now allowance edition way)
-        (record { tables = lentBefore masks levels entered cases symbols; run = recordFrom numbers.old })) }
+    ensures { StepGave numbers.old result numbers.new (lent_after masks levels entered cases symbols)
+        (step_of image.now (terms_of hints.now allowance edition way)
+        (record { tables = lent_before masks levels entered cases symbols; run = record_from numbers.old })) }
 {
     let before = *numbers;
     let mut kept = record_from(before);
@@ -204,7 +204,7 @@ pub extern "C" fn afa_why(
     case: u64,
     found: &mut [u64; 2],
 ) -> u64
-    ensures { Told result found.new (why initial (blockersBefore masks levels) level case) }
+    ensures { Told result found.new (why initial (blockers_before masks levels) level case) }
 {
     *found = [0, 0];
     if 4294967295 < level {

@@ -9,15 +9,15 @@ use lib.Dec.{eqb→eq}
 use lib.ListN.{length}
 use Rattle.lists.specs.Lists.{◌∈◌, here, there}
 use Rattle.lists.proofs.Tests.{and_right}
-use Rattle.lists.proofs.Lists.{in-none, in-cases}
-use Rattle.automata.specs.Image.{Row, Valid, symbolsOf, rowCountOf, offset_of, size_of, rowsStart, spanStart, pairsHold, row_at, rows_from, rows_of}
+use Rattle.lists.proofs.Lists.{in_none, in_cases}
+use Rattle.automata.specs.Image.{Row, Valid, symbols_of, row_count_of, offset_of, size_of, rows_start, span_start, pairs_hold, row_at, rows_from, rows_of}
 use Rattle.automata.specs.Walk.{RowsStand}
-use Rattle.automata.proofs.ValidImage.{valid-kept, span_begins, span-nines, span-in, spans-nine, rows-of-symbol, valid-rows}
+use Rattle.automata.proofs.ValidImage.{valid_kept, span_begins, span_nines, span_in, spans_nine, rows_of_symbol, valid_rows}
 use Rattle.firing.specs.Linked.{place_of, Belongs}
 
-span-after : (image : List ℕ) (s : ℕ) → spanStart image (suc s) ≡ offset_of image s + size_of image s
-unfolding spanStart
-span-after image s = refl
+span_after : (image : List ℕ) (s : ℕ) → span_start image (suc s) ≡ offset_of image s + size_of image s
+unfolding span_start
+span_after image s = refl
 
 -- a place among rows from a place on
 record AtPlace (image : List ℕ) (row : Row) (count at : ℕ) : Type 0 where
@@ -27,8 +27,8 @@ record AtPlace (image : List ℕ) (row : Row) (count at : ℕ) : Type 0 where
 
 places : (image : List ℕ) (row : Row) (count at : ℕ) → row ∈ rows_from image count at → AtPlace image row count at
 unfolding rows_from
-places image row zero at m = absurd (in-none m)
-places image row (suc count) at m = from (λ k. places image row count (at + 9) k) (in-cases m)
+places image row zero at m = absurd (in_none m)
+places image row (suc count) at m = from (λ k. places image row count (at + 9) k) (in_cases m)
   where
     from : (row ∈ rows_from image count (at + 9) → AtPlace image row count (at + 9)) → (row ≡ row_at image at) ⊎ row ∈ rows_from image count (at + 9)
         → AtPlace image row (suc count) at
@@ -47,77 +47,77 @@ row_listed image (suc number) (suc count) at l =
     there (subst (λ (p : ℕ). row_at image p ∈ rows_from image count (at + 9)) (sym z) (row_listed image number count (at + 9) (omega arith)))
 
 -- the last span ends at the image's end
-pub spans-end : (image : List ℕ) → Valid image → spanStart image (symbolsOf image) ≡ length image
-unfolding pairsHold
-spans-end image valid = eqb→eq _ _ (and_right _ _ (valid-kept image valid).pairs)
+pub spans_end : (image : List ℕ) → Valid image → span_start image (symbols_of image) ≡ length image
+unfolding pairs_hold
+spans_end image valid = eqb→eq _ _ (and_right _ _ (valid_kept image valid).pairs)
 
 -- a row of a symbol by its number
 pub record Numbered (image : List ℕ) (s : ℕ) (row : Row) : Type 0 where
   pub number : ℕ
-  pub few : number < rowCountOf image
+  pub few : number < row_count_of image
   pub belongs : Belongs image s number
   pub is : row_at image (place_of image number) ≡ row
 
 module _ (image : List ℕ) (valid : Valid image) where
-  pub numbered : (s : ℕ) → s < symbolsOf image → (row : Row) → row ∈ rows_of image s → Numbered image s row
+  pub numbered : (s : ℕ) → s < symbols_of image → (row : Row) → row ∈ rows_of image s → Numbered image s row
   numbered s l row m =
-      let place = places image row (size_of image s / 9) (offset_of image s) (rw (rows-of-symbol image s l) at m) in
-      let nine = spans-nine image valid s (omega arith) in
+      let place = places image row (size_of image s / 9) (offset_of image s) (rw (rows_of_symbol image s l) at m) in
+      let nine = spans_nine image valid s (omega arith) in
       let begins = span_begins image valid s l in
-      let before : ℕ = (spanStart image s - rowsStart image) / 9 in
+      let before : ℕ = (span_start image s - rows_start image) / 9 in
       let e : place_of image (before + place.number) ≡ offset_of image s + 9 * place.number = omega (arith, nine.0, nine.1, begins) in
       record {
         number = before + place.number;
-        few = omega (arith, e, place.few, span-nines image valid s l, span-in image valid s l, (valid-kept image valid).whole);
+        few = omega (arith, e, place.few, span_nines image valid s l, span_in image valid s l, (valid_kept image valid).whole);
         belongs = record {
           known = l;
           from = omega (arith, e, begins);
-          to = omega (arith, e, place.few, span-after image s, span-nines image valid s l);
+          to = omega (arith, e, place.few, span_after image s, span_nines image valid s l);
         };
         is = ap (row_at image) e ∙ place.is;
       }
 
   module _ (s r : ℕ) (belongs : Belongs image s r) where
-    pub belongs-in : row_at image (place_of image r) ∈ rows_of image s
-    belongs-in =
-        let nine = spans-nine image valid s (omega (arith, belongs.known)) in
+    pub belongs_in : row_at image (place_of image r) ∈ rows_of image s
+    belongs_in =
+        let nine = spans_nine image valid s (omega (arith, belongs.known)) in
         let begins = span_begins image valid s belongs.known in
         let number : ℕ = (place_of image r - offset_of image s) / 9 in
         let e : offset_of image s + 9 * number ≡ place_of image r = omega (arith, nine.0, nine.1, begins, belongs.from) in
-        let few : number < size_of image s / 9 = omega (arith, e, belongs.to, span-after image s, span-nines image valid s belongs.known) in
-        rw (rows-of-symbol image s belongs.known) (subst (λ (at : ℕ). row_at image at ∈ rows_from image (size_of image s / 9) (offset_of image s)) e
+        let few : number < size_of image s / 9 = omega (arith, e, belongs.to, span_after image s, span_nines image valid s belongs.known) in
+        rw (rows_of_symbol image s belongs.known) (subst (λ (at : ℕ). row_at image at ∈ rows_from image (size_of image s / 9) (offset_of image s)) e
         (row_listed image number (size_of image s / 9) (offset_of image s) few))
 
-    pub belongs-few : r < rowCountOf image
-    belongs-few =
-        omega (arith, belongs.to, span-after image s, span-in image valid s belongs.known, (valid-kept image valid).whole)
+    pub belongs_few : r < row_count_of image
+    belongs_few =
+        omega (arith, belongs.to, span_after image s, span_in image valid s belongs.known, (valid_kept image valid).whole)
 
-    pub belongs-stands : (at : ℕ) → at ≡ place_of image r → RowsStand image 1 at
+    pub belongs_stands : (at : ℕ) → at ≡ place_of image r → RowsStand image 1 at
     unfolding rows_from
-    belongs-stands at e =
+    belongs_stands at e =
         record {
-          inside = omega (arith, e, belongs-few, (valid-kept image valid).whole);
-          states = λ row m. state row (in-cases m);
+          inside = omega (arith, e, belongs_few, (valid_kept image valid).whole);
+          states = λ row m. state row (in_cases m);
         }
       where
         state : (row : Row) → (row ≡ row_at image at) ⊎ row ∈ [] → row.state < 64
         state row (inl q) =
-            let kept = valid-rows image valid s belongs.known _ belongs-in in
-            rw (q, e) (omega (arith, kept.state-below, (valid-kept image valid).states-fit))
-        state row (inr q) = absurd (in-none q)
+            let kept = valid_rows image valid s belongs.known _ belongs_in in
+            rw (q, e) (omega (arith, kept.state_below, (valid_kept image valid).states_fit))
+        state row (inr q) = absurd (in_none q)
 
   -- the spans follow one another
-  climbs : (count s : ℕ) → s + count ≤ symbolsOf image → spanStart image s ≤ spanStart image (s + count)
+  climbs : (count s : ℕ) → s + count ≤ symbols_of image → span_start image s ≤ span_start image (s + count)
   climbs zero s l = let e : s + 0 ≡ s = omega arith in rw e (omega arith)
   climbs (suc count) s l =
       let e : s + suc count ≡ suc (s + count) = omega arith in
-      rw e (omega (arith, climbs count s (omega arith), span-after image (s + count), span_begins image valid (s + count) (omega arith)))
+      rw e (omega (arith, climbs count s (omega arith), span_after image (s + count), span_begins image valid (s + count) (omega arith)))
 
   before : (s t r : ℕ) → Belongs image s r → Belongs image t r → s < t → ⊥
   before s t r bs bt l =
       let e : suc s + (t - suc s) ≡ t = omega arith in
       let up = climbs (t - suc s) (suc s) (omega (arith, e, bt.known)) in
-      let q : spanStart image (suc s + (t - suc s)) ≡ spanStart image t = ap (spanStart image) e in
+      let q : span_start image (suc s + (t - suc s)) ≡ span_start image t = ap (span_start image) e in
       omega (arith, up, q, bs.to, bt.from)
 
   pub one_symbol : (s t r : ℕ) → Belongs image s r → Belongs image t r → s ≡ t

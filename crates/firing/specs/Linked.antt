@@ -3,35 +3,35 @@ use Rattle.std.specs.Prelude.{ℕ, suc, ◌+◌, ◌-◌, ◌*◌, ◌≤◌, �
 use Rattle.std.specs.Int.Count.{count_leading_zeros}
 use Rattle.chains.specs.Chained.{Chained}
 use Rattle.masks.specs.Sets.{without}
-use Rattle.automata.specs.Image.{Valid, symbolsOf, rowCountOf, rowsStart, spanStart, row_at}
+use Rattle.automata.specs.Image.{Valid, symbols_of, row_count_of, rows_start, span_start, row_at}
 
 -- where row r of the m stands
 abbrev pub place_of : List ℕ → ℕ → ℕ
-place_of image r = rowsStart image + 9 * r
+place_of image r = rows_start image + 9 * r
 
 -- row r is one of symbol s: it stands in its span
 pub record Belongs (image : List ℕ) (s r : ℕ) : Type 0 where
-  pub known : s < symbolsOf image
-  pub from : spanStart image s ≤ place_of image r
-  pub to : place_of image r < spanStart image (suc s)
+  pub known : s < symbols_of image
+  pub from : span_start image s ≤ place_of image r
+  pub to : place_of image r < span_start image (suc s)
 
 -- 1 and the highest of the case's states that X lacks, or 0 where it lacks none
 unfoldable pub firing : ℕ → ℕ → ℕ
 firing case X = 64 - count_leading_zeros 64 (without case X)
 
 -- of row r
-abbrev pub firesAt : List ℕ → ℕ → ℕ → ℕ
-firesAt image X r = firing (row_at image (place_of image r)).case X
+abbrev pub fires_at : List ℕ → ℕ → ℕ → ℕ
+fires_at image X r = firing (row_at image (place_of image r)).case X
 
 -- the tables have places for all rows and all states
 pub record RowRoom (image lasts links symbols : List ℕ) : Type 0 where
   pub lasts_fit : 65 ≤ length lasts
-  pub links-fit : rowCountOf image ≤ length links
-  pub symbols-fit : rowCountOf image ≤ length symbols
+  pub links_fit : row_count_of image ≤ length links
+  pub symbols_fit : row_count_of image ≤ length symbols
 
 -- the first `count` rows are chained by the states at which they can fire, and the symbol of each is told
 pub record Linked (image : List ℕ) (X count : ℕ) (lasts links symbols : List ℕ) : Type 0 where
   pub valid : Valid image
   pub room : RowRoom image lasts links symbols
-  pub chained : Chained (firesAt image X) count lasts links
+  pub chained : Chained (fires_at image X) count lasts links
   pub belongs : (r : ℕ) → r < count → Belongs image (get_or symbols r 0) r

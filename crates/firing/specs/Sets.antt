@@ -1,13 +1,13 @@
 -- The backward sets of a set, by symbol, and a state that is tried for it. Assumes nothing: these are definitions.
 use Rattle.std.specs.Prelude.{ℕ, ◌≤◌, ◌<◌, ◌≡◌, List, T, length, get_or}
 use Rattle.masks.specs.Sets.{Member, subset, union, single}
-use Rattle.automata.specs.Image.{statesOf, symbolsOf, rows_of}
+use Rattle.automata.specs.Image.{states_of, symbols_of, rows_of}
 use Rattle.automata.specs.Automaton.{backward}
 
 -- the table has the backward set of Y by each symbol
 pub record SetsOf (image : List ℕ) (Y : ℕ) (sets : List ℕ) : Type 0 where
-  pub room : symbolsOf image ≤ length sets
-  pub are : (s : ℕ) → s < symbolsOf image → get_or sets s 0 ≡ backward (rows_of image s) Y
+  pub room : symbols_of image ≤ length sets
+  pub are : (s : ℕ) → s < symbols_of image → get_or sets s 0 ≡ backward (rows_of image s) Y
 
 -- Y has grown from X by states below q
 pub record Below (X q Y : ℕ) : Type 0 where
@@ -17,6 +17,6 @@ pub record Below (X q Y : ℕ) : Type 0 where
 -- state q, which X lacks, is tried for Y
 pub record Trying (image : List ℕ) (X q Y more : ℕ) : Type 0 where
   pub below : Below X q Y
-  pub known : q < statesOf image
+  pub known : q < states_of image
   pub new : Member q X → ⊥
   pub is : more ≡ union Y (single q)

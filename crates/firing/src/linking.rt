@@ -1,17 +1,17 @@
 // Rows chained by the state at which they can fire: the highest state of the case that x lacks. While states are tried in order, a row's case can come to be
 // inside the set only when that state does.
 ghost use Rattle.std.specs.Prelude.{◌≡◌, suc, ◌+◌, ◌≤◌, ◌<◌};
-ghost use Rattle.automata.specs.Image.{symbolsOf, rowCountOf, spanStart};
+ghost use Rattle.automata.specs.Image.{symbols_of, row_count_of, span_start};
 ghost use Rattle.automata.specs.Answers.{ReadAs};
 ghost use Rattle.firing.specs.Linked.{place_of, Belongs, Linked};
-ghost use Rattle.firing.specs.Linked.{firing as firingOf};
+ghost use Rattle.firing.specs.Linked.{firing as firing_of};
 
 use automata::image::{Head, Symbol};
 use automata::rows::{row_at, rows_of};
 
 // 1 and the highest state of the case that x lacks, or 0.
 fn firing(case: u64, x: u64) -> usize
-    ensures { (result ≡ firingOf case x) × (result ≤ 64) }
+    ensures { (result ≡ firing_of case x) × (result ≤ 64) }
 {
     let lacking = masks::without(case, x);
     (64 - u64::leading_zeros(lacking)) as usize
@@ -47,10 +47,10 @@ fn link_symbol(
     links: &mut [u16],
     symbols: &mut [u8],
 ) -> usize
-    requires { Linked image.now x count lasts.old links.old symbols.old × (symbol.0 < symbolsOf image.now)
-        × (place_of image.now count ≡ spanStart image.now symbol.0) }
+    requires { Linked image.now x count lasts.old links.old symbols.old × (symbol.0 < symbols_of image.now)
+        × (place_of image.now count ≡ span_start image.now symbol.0) }
     ensures { Linked image.now x result lasts.new links.new symbols.new
-        × (place_of image.now result ≡ spanStart image.now (suc symbol.0)) }
+        × (place_of image.now result ≡ span_start image.now (suc symbol.0)) }
 {
     let rows = rows_of(image, symbol);
     let end = rows.end;
@@ -74,7 +74,7 @@ pub fn link_rows(
     symbols: &mut [u8],
 )
     requires { ReadAs image.now head × Linked image.now x 0 lasts.old links.old symbols.old }
-    ensures { Linked image.now x (rowCountOf image.now) lasts.new links.new symbols.new }
+    ensures { Linked image.now x (row_count_of image.now) lasts.new links.new symbols.new }
 {
     let mut count: usize = 0;
     let mut symbol = Symbol(0);

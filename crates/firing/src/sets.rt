@@ -1,6 +1,6 @@
 // The backward sets of the set so far, kept for every symbol: those that a state more brings in come from the rows that fire at it.
 ghost use Rattle.std.specs.Prelude.{◌≡◌, ◌<◌, length, get_or, set as put};
-ghost use Rattle.automata.specs.Image.{rowCountOf, row_at};
+ghost use Rattle.automata.specs.Image.{row_count_of, row_at};
 ghost use Rattle.automata.specs.Automaton.{with_row};
 ghost use Rattle.automata.specs.Walk.{RowsStand};
 ghost use Rattle.automata.specs.Answers.{ReadAs};
@@ -40,7 +40,7 @@ pub fn fire(
     symbols: &[u8],
     sets: &mut [u64],
 )
-    requires { ReadAs image.now head × Linked image.now x (rowCountOf image.now) lasts.now links.now symbols.now
+    requires { ReadAs image.now head × Linked image.now x (row_count_of image.now) lasts.now links.now symbols.now
         × Trying image.now x q.0 y more × SetsOf image.now y sets.old }
     ensures { SetsOf image.now more sets.new }
 {

@@ -4,9 +4,9 @@ mod trying; // trying.rt: the growth by states over tables
 
 ghost use Rattle.std.specs.Prelude.{◌≡◌};
 ghost use Rattle.automata.specs.Answers.{ReadAs};
-ghost use Rattle.machine.specs.Machine.{byStates};
-ghost use Rattle.machine.specs.Lending.{blockersBefore};
-ghost use Rattle.machine.specs.Runs.{systemOf};
+ghost use Rattle.machine.specs.Machine.{by_states};
+ghost use Rattle.machine.specs.Lending.{blockers_before};
+ghost use Rattle.machine.specs.Runs.{system_of};
 
 use automata::image::Head;
 use blockers::Level;
@@ -40,7 +40,7 @@ pub fn by_states(
     x: u64,
 ) -> u64
     requires { ReadAs image.now head }
-    ensures { result ≡ byStates (systemOf image.now) (blockersBefore masks levels) below.0 x }
+    ensures { result ≡ by_states (system_of image.now) (blockers_before masks levels) below.0 x }
 {
     if !masks::within(head.states, x) {
         return x;

@@ -1,15 +1,15 @@
 // The growth by states over tables: the backward sets of the set so far, the lists of what covers them, and the rows by the states at which they fire.
 ghost use Rattle.std.specs.Prelude.{◌≡◌, true, ◌+◌, ◌≤◌, ◌<◌, T, length, get_or};
 ghost use Rattle.masks.specs.Sets.{within};
-ghost use Rattle.automata.specs.Image.{statesOf, symbolsOf, rowCountOf};
+ghost use Rattle.automata.specs.Image.{states_of, symbols_of, row_count_of};
 ghost use Rattle.automata.specs.Answers.{ReadAs};
-ghost use Rattle.machine.specs.Machine.{passes, withState, byStates};
-ghost use Rattle.machine.specs.Lending.{blockersNow, blockersBefore};
-ghost use Rattle.machine.specs.Runs.{systemOf};
-ghost use Rattle.passing.specs.Grown.{allSettled};
+ghost use Rattle.machine.specs.Machine.{passes, with_state, by_states};
+ghost use Rattle.machine.specs.Lending.{blockers_now, blockers_before};
+ghost use Rattle.machine.specs.Runs.{system_of};
+ghost use Rattle.passing.specs.Grown.{all_settled};
 ghost use Rattle.firing.specs.Linked.{Linked};
 ghost use Rattle.firing.specs.Sets.{SetsOf, Trying};
-ghost use Rattle.growing.specs.Near.{firstPlace};
+ghost use Rattle.growing.specs.Near.{first_place};
 ghost use Rattle.growing.specs.Kept.{SymbolRoom, GrowthBegun, Growing, Settling, Copied};
 
 use automata::backward::backward;
@@ -36,7 +36,7 @@ fn copy(from: &[u64], to: &mut [u64], count: usize)
 
 // Where the first list begins; at level 0 no blocker covers, and there are no lists.
 fn first_place(below: Level) -> usize
-    ensures { result ≡ firstPlace below.0 }
+    ensures { result ≡ first_place below.0 }
 {
     if below.equals(Level(0)) {
         return 65535;
@@ -57,7 +57,7 @@ fn first_sets(
     ends: &mut [usize],
 ) -> bool
     requires { ReadAs image.now head × SymbolRoom image.now sets.old near.old ends.old × (get_or ends.old 0 0 ≡ 0) }
-    ensures { result ≡ true → GrowthBegun image.now (blockersBefore masks levels) below.0 x
+    ensures { result ≡ true → GrowthBegun image.now (blockers_before masks levels) below.0 x
         sets.new near.new ends.new }
 {
     let mut count = first_place(below);
@@ -93,8 +93,8 @@ fn all_settled(
     ends: &[usize],
 ) -> bool
     requires { ReadAs image.now head
-        × Settling image.now (blockersNow masks levels) below.0 x y more before.now sets.now near.now ends.now }
-    ensures { result ≡ allSettled image.now (blockersBefore masks levels) below.0 more }
+        × Settling image.now (blockers_now masks levels) below.0 x y more before.now sets.now near.now ends.now }
+    ensures { result ≡ all_settled image.now (blockers_before masks levels) below.0 more }
 {
     let mut symbol = Symbol(0);
     while symbol.0 < head.symbols {
@@ -136,8 +136,8 @@ fn fire_next(
     sets: &[u64],
     next: &mut [u64],
 )
-    requires { ReadAs image.now head × Linked image.now x (rowCountOf image.now) lasts.now links.now symbols.now
-        × Trying image.now x q.0 y more × SetsOf image.now y sets.now × (symbolsOf image.now ≤ length next.old) }
+    requires { ReadAs image.now head × Linked image.now x (row_count_of image.now) lasts.now links.now symbols.now
+        × Trying image.now x q.0 y more × SetsOf image.now y sets.now × (symbols_of image.now ≤ length next.old) }
     ensures { SetsOf image.now more next.new }
 {
     copy(sets, next, place_of(head.symbols));
@@ -163,10 +163,10 @@ fn keeps(
     sets: &[u64],
     next: &mut [u64],
 ) -> bool
-    requires { ReadAs image.now head × Linked image.now x (rowCountOf image.now) lasts.now links.now symbols.now
-        × Growing image.now (blockersNow masks levels) below.0 x q.0 y sets.now next.old near.now ends.now
+    requires { ReadAs image.now head × Linked image.now x (row_count_of image.now) lasts.now links.now symbols.now
+        × Growing image.now (blockers_now masks levels) below.0 x q.0 y sets.now next.old near.now ends.now
         × Trying image.now x q.0 y more }
-    ensures { (result ≡ passes (systemOf image.now) (blockersBefore masks levels) below.0 x more)
+    ensures { (result ≡ passes (system_of image.now) (blockers_before masks levels) below.0 x more)
         × (result ≡ true → SetsOf image.now more next.new) }
 {
     if masks::subset(head.initial, more) {
@@ -198,11 +198,11 @@ fn try_state(
     sets: &mut [u64],
     next: &mut [u64],
 ) -> u64
-    requires { ReadAs image.now head × Linked image.now x (rowCountOf image.now) lasts.now links.now symbols.now
-        × Growing image.now (blockersNow masks levels) below.0 x q.0 y sets.old next.old near.now ends.now
-        × (q.0 < statesOf image.now) }
-    ensures { (result ≡ withState (systemOf image.now) (blockersBefore masks levels) below.0 x q.0 y)
-        × Growing image.now (blockersBefore masks levels) below.0 x (q.0 + 1) result
+    requires { ReadAs image.now head × Linked image.now x (row_count_of image.now) lasts.now links.now symbols.now
+        × Growing image.now (blockers_now masks levels) below.0 x q.0 y sets.old next.old near.now ends.now
+        × (q.0 < states_of image.now) }
+    ensures { (result ≡ with_state (system_of image.now) (blockers_before masks levels) below.0 x q.0 y)
+        × Growing image.now (blockers_before masks levels) below.0 x (q.0 + 1) result
         sets.new next.new near.now ends.now }
 {
     if masks::member(q, x) {
@@ -235,10 +235,10 @@ fn try_states(
     sets: &mut [u64],
     next: &mut [u64],
 ) -> u64
-    requires { ReadAs image.now head × Linked image.now x (rowCountOf image.now) lasts.now links.now symbols.now
-        × GrowthBegun image.now (blockersNow masks levels) below.0 x sets.old near.now ends.now
-        × T (within (statesOf image.now) x) × (symbolsOf image.now ≤ length next.old) }
-    ensures { result ≡ byStates (systemOf image.now) (blockersBefore masks levels) below.0 x }
+    requires { ReadAs image.now head × Linked image.now x (row_count_of image.now) lasts.now links.now symbols.now
+        × GrowthBegun image.now (blockers_now masks levels) below.0 x sets.old near.now ends.now
+        × T (within (states_of image.now) x) × (symbols_of image.now ≤ length next.old) }
+    ensures { result ≡ by_states (system_of image.now) (blockers_before masks levels) below.0 x }
 {
     let mut y = x;
     let mut q = State(0);
@@ -269,9 +269,9 @@ fn grow_in(
     symbols: &mut [u8],
 ) -> u64
     requires { ReadAs image.now head × Linked image.now x 0 lasts.old links.old symbols.old
-        × GrowthBegun image.now (blockersNow masks levels) below.0 x sets.old near.now ends.now
-        × T (within (statesOf image.now) x) × (symbolsOf image.now ≤ length next.old) }
-    ensures { result ≡ byStates (systemOf image.now) (blockersBefore masks levels) below.0 x }
+        × GrowthBegun image.now (blockers_now masks levels) below.0 x sets.old near.now ends.now
+        × T (within (states_of image.now) x) × (symbols_of image.now ≤ length next.old) }
+    ensures { result ≡ by_states (system_of image.now) (blockers_before masks levels) below.0 x }
 {
     link_rows(image, head, x, lasts, links, symbols);
     try_states(
@@ -292,10 +292,10 @@ fn grow_short(
     sets: &mut [u64],
     next: &mut [u64],
 ) -> u64
-    requires { ReadAs image.now head × (rowCountOf image.now < 512)
-        × GrowthBegun image.now (blockersNow masks levels) below.0 x sets.old near.now ends.now
-        × T (within (statesOf image.now) x) × (symbolsOf image.now ≤ length next.old) }
-    ensures { result ≡ byStates (systemOf image.now) (blockersBefore masks levels) below.0 x }
+    requires { ReadAs image.now head × (row_count_of image.now < 512)
+        × GrowthBegun image.now (blockers_now masks levels) below.0 x sets.old near.now ends.now
+        × T (within (states_of image.now) x) × (symbols_of image.now ≤ length next.old) }
+    ensures { result ≡ by_states (system_of image.now) (blockers_before masks levels) below.0 x }
 {
     let mut lasts = [0u16; 65];
     let mut links = [0u16; SHORT_TABLE];
@@ -331,9 +331,9 @@ fn grow_long(
     next: &mut [u64],
 ) -> u64
     requires { ReadAs image.now head
-        × GrowthBegun image.now (blockersNow masks levels) below.0 x sets.old near.now ends.now
-        × T (within (statesOf image.now) x) × (symbolsOf image.now ≤ length next.old) }
-    ensures { result ≡ byStates (systemOf image.now) (blockersBefore masks levels) below.0 x }
+        × GrowthBegun image.now (blockers_now masks levels) below.0 x sets.old near.now ends.now
+        × T (within (states_of image.now) x) × (symbols_of image.now ≤ length next.old) }
+    ensures { result ≡ by_states (system_of image.now) (blockers_before masks levels) below.0 x }
 {
     let mut lasts = [0u16; 65];
     let mut links = [0u16; 4096];
@@ -369,9 +369,9 @@ fn grow_begun(
     next: &mut [u64],
 ) -> u64
     requires { ReadAs image.now head
-        × GrowthBegun image.now (blockersNow masks levels) below.0 x sets.old near.now ends.now
-        × T (within (statesOf image.now) x) × (symbolsOf image.now ≤ length next.old) }
-    ensures { result ≡ byStates (systemOf image.now) (blockersBefore masks levels) below.0 x }
+        × GrowthBegun image.now (blockers_now masks levels) below.0 x sets.old near.now ends.now
+        × T (within (states_of image.now) x) × (symbols_of image.now ≤ length next.old) }
+    ensures { result ≡ by_states (system_of image.now) (blockers_before masks levels) below.0 x }
 {
     if head.rows < SHORT_ROWS {
         return grow_short(image, head, masks, levels, below, x, near, ends, sets, next);
@@ -388,8 +388,8 @@ pub(crate) fn by_tables(
     below: Level,
     x: u64,
 ) -> u64
-    requires { ReadAs image.now head × T (within (statesOf image.now) x) }
-    ensures { result ≡ byStates (systemOf image.now) (blockersBefore masks levels) below.0 x }
+    requires { ReadAs image.now head × T (within (states_of image.now) x) }
+    ensures { result ≡ by_states (system_of image.now) (blockers_before masks levels) below.0 x }
 {
     let mut sets = [0u64; 64];
     let mut near = [0u64; LISTED_COVERS];

@@ -6,43 +6,43 @@ use native.Mathlib.Omega.{arith}
 use lib.ListN.{length, take, replicate}
 use lib.Seq.{length-take-le}
 use Rattle.masks.specs.Sets.{without, full}
-use Rattle.automata.specs.Image.{rowCountOf, rows_of}
+use Rattle.automata.specs.Image.{row_count_of, rows_of}
 use Rattle.automata.specs.Answers.{ReadAs}
 use Rattle.automata.specs.declared.image.Head.{Head}
-use Rattle.automata.proofs.ValidImage.{valid-kept}
-use Rattle.automata.proofs.Reading.{head-states}
+use Rattle.automata.proofs.ValidImage.{valid_kept}
+use Rattle.automata.proofs.Reading.{head_states}
 use Rattle.machine.specs.Machine.{Blocker}
-use Rattle.machine.specs.Runs.{systemOf}
-use Rattle.machine.specs.Hitting.{toMeet, picked, byHittingSet}
+use Rattle.machine.specs.Runs.{system_of}
+use Rattle.machine.specs.Hitting.{to_meet, picked, by_hitting_set}
 use Rattle.hitting.specs.Sets.{Gathered, HasRoom}
-use Rattle.hitting.proofs.Linking.{none-slotted}
-use Rattle.hitting.proofs.Few.{few-sets}
+use Rattle.hitting.proofs.Linking.{none_slotted}
+use Rattle.hitting.proofs.Few.{few_sets}
 
 module _ {image : List ℕ} {head : Head} (read : ReadAs image head) where
   -- there are at most 4,096 rows
-  pub all-rows : rowCountOf image < 4097
-  all-rows = omega (arith, (valid-kept image read.valid).few-rows)
+  pub all_rows : row_count_of image < 4097
+  all_rows = omega (arith, (valid_kept image read.valid).few_rows)
 
   module _ (table : List Blocker) (below X : ℕ) (places : List ℕ) where
-    pub room-enough : (slots links : List ℕ) → rowCountOf image < length places → length places < 65536 → length places ≤ length links → 1 ≤ length slots
-        → slots ≡ replicate (length slots) 0 → HasRoom 0 places slots links (toMeet (systemOf image) (rows_of image) table below X)
-    room-enough slots links l narrow linked some none =
+    pub room_enough : (slots links : List ℕ) → row_count_of image < length places → length places < 65536 → length places ≤ length links → 1 ≤ length slots
+        → slots ≡ replicate (length slots) 0 → HasRoom 0 places slots links (to_meet (system_of image) (rows_of image) table below X)
+    room_enough slots links l narrow linked some none =
         record {
           used = record {
             gathered = record { stands = refl; fits = omega arith };
-            slotted = none-slotted slots links some none;
-            links-fit = linked;
+            slotted = none_slotted slots links some none;
+            links_fit = linked;
             narrow = narrow;
           };
-          room = omega (arith, few-sets image read.valid table below X);
+          room = omega (arith, few_sets image read.valid table below X);
         }
 
-    module _ (count : ℕ) (gathered : Gathered (toMeet (systemOf image) (rows_of image) table below X) count places) where
-      pub few-enough : count < 8192
-      few-enough =
-          omega (arith, length-take-le count places gathered.fits, ap length gathered.stands, few-sets image read.valid table below X, all-rows)
+    module _ (count : ℕ) (gathered : Gathered (to_meet (system_of image) (rows_of image) table below X) count places) where
+      pub few_enough : count < 8192
+      few_enough =
+          omega (arith, length-take-le count places gathered.fits, ap length gathered.stands, few_sets image read.valid table below X, all_rows)
 
       pub grown : (all picks result : ℕ) → all ≡ full head.states → picks ≡ picked head.states (take count places) → result ≡ without all picks
-          → result ≡ byHittingSet (systemOf image) (rows_of image) table below X
-      unfolding byHittingSet
-      grown all picks result a p r = r ∙ rw (a, p, gathered.stands, head-states read)
+          → result ≡ by_hitting_set (system_of image) (rows_of image) table below X
+      unfolding by_hitting_set
+      grown all picks result a p r = r ∙ rw (a, p, gathered.stands, head_states read)

@@ -16,53 +16,53 @@ use lib.ListN.{length, get_or, take, drop, set, replicate, take-append-drop, len
 use lib.Seq.{length-take-le, take_all, take-suc-set, drop-cons, drop-set-lt, append_snoc, drop-length}
 use Rattle.lists.specs.Tests.{choose}
 use Rattle.lists.specs.Lists.{keep}
-use Rattle.lists.proofs.Tests.{is_true, is_false, choose-true, choose-false}
-use Rattle.lists.proofs.Lists.{keep-length}
-use Rattle.masks.specs.Sets.{digit, Member, member, subset, full, absent, lowestAbsent}
-use Rattle.masks.proofs.Digits.{digit_and, digit-xor, digit-zero, digit-above}
-use Rattle.masks.proofs.Laws.{member-means, subset-members, empty-members, no-members, full-members, absent-means, lowest-found}
+use Rattle.lists.proofs.Tests.{is_true, is_false, choose_true, choose_false}
+use Rattle.lists.proofs.Lists.{keep_length}
+use Rattle.masks.specs.Sets.{digit, Member, member, subset, full, absent, lowest_absent}
+use Rattle.masks.proofs.Digits.{digit_and, digit_xor, digit_zero, digit_above}
+use Rattle.masks.proofs.Laws.{member_means, subset_members, empty_members, no_members, full_members, absent_means, lowest_found}
 use Rattle.machine.specs.Hitting.{meets}
-use Rattle.machine.proofs.Greedy.{best-one}
-use Rattle.hitting.specs.Sets.{withCarry, countAll, narrowed, highest, Best}
-use Rattle.hitting.proofs.Table.{next-set, no-set}
+use Rattle.machine.proofs.Greedy.{best_one}
+use Rattle.hitting.specs.Sets.{with_carry, count_all, narrowed, highest, Best}
+use Rattle.hitting.proofs.Table.{next_set, no_set}
 
 -- no carry changes no plane
-carry-nothing : (planes : List ℕ) → withCarry 0 planes ≡ planes
-unfolding withCarry
-carry-nothing [] = refl
-carry-nothing (plane ∷ planes) = rw (xor_zero_r plane, and_zero_r plane, carry-nothing planes)
+carry_nothing : (planes : List ℕ) → with_carry 0 planes ≡ planes
+unfolding with_carry
+carry_nothing [] = refl
+carry_nothing (plane ∷ planes) = rw (xor_zero_r plane, and_zero_r plane, carry_nothing planes)
 
 -- the carry on its way, at plane j: the planes before it have the set counted, and it is to be added to the others
 pub record Carrying (before : List ℕ) (one carry j : ℕ) (planes : List ℕ) : Type 0 where
   pub same : length planes ≡ length before
-  pub whole : take j planes ++ withCarry carry (drop j planes) ≡ withCarry one before
+  pub whole : take j planes ++ with_carry carry (drop j planes) ≡ with_carry one before
 
 -- it is the set, before the first plane
-pub carry-starts : {planes : List ℕ} {one : ℕ} → Carrying planes one one 0 planes
-carry-starts = record { same = refl; whole = refl }
+pub carry_starts : {planes : List ℕ} {one : ℕ} → Carrying planes one one 0 planes
+carry_starts = record { same = refl; whole = refl }
 
 module _ {before : List ℕ} {one carry j : ℕ} {planes : List ℕ} (so_far : Carrying before one carry j planes) where
   -- nothing is carried on: the set is counted
-  pub carry-stops : carry ≡ 0 → planes ≡ withCarry one before
-  carry-stops z =
+  pub carry_stops : carry ≡ 0 → planes ≡ with_carry one before
+  carry_stops z =
       sym (take-append-drop j planes)
-      ∙ ap (λ (rest : List ℕ). take j planes ++ rest) (sym (carry-nothing (drop j planes)))
-      ∙ ap (λ (c : ℕ). take j planes ++ withCarry c (drop j planes)) (sym z)
+      ∙ ap (λ (rest : List ℕ). take j planes ++ rest) (sym (carry_nothing (drop j planes)))
+      ∙ ap (λ (c : ℕ). take j planes ++ with_carry c (drop j planes)) (sym z)
       ∙ so_far.whole
 
   -- it goes on to the next plane
-  pub carry-goes : j < length planes
+  pub carry_goes : j < length planes
       → Carrying before one (bit_and (get_or planes j 0) carry) (j + 1) (set planes j (bit_xor (get_or planes j 0) carry))
-  unfolding withCarry
-  carry-goes l =
+  unfolding with_carry
+  carry_goes l =
       record {
         same = length-set planes j sum ∙ so_far.same;
         whole =
-            ap (λ (k : ℕ). take k after ++ withCarry both (drop k after)) (add-one j)
-            ∙ ap (λ (rest : List ℕ). take (suc j) after ++ withCarry both rest) (drop-set-lt (suc j) planes j sum (omega arith))
-            ∙ ap (λ (front : List ℕ). front ++ withCarry both (drop (suc j) planes)) (take-suc-set planes j sum l)
-            ∙ append_snoc (take j planes) sum (withCarry both (drop (suc j) planes))
-            ∙ ap (λ (rest : List ℕ). take j planes ++ withCarry carry rest) (sym (drop-cons planes j 0 l))
+            ap (λ (k : ℕ). take k after ++ with_carry both (drop k after)) (add-one j)
+            ∙ ap (λ (rest : List ℕ). take (suc j) after ++ with_carry both rest) (drop-set-lt (suc j) planes j sum (omega arith))
+            ∙ ap (λ (front : List ℕ). front ++ with_carry both (drop (suc j) planes)) (take-suc-set planes j sum l)
+            ∙ append_snoc (take j planes) sum (with_carry both (drop (suc j) planes))
+            ∙ ap (λ (rest : List ℕ). take j planes ++ with_carry carry rest) (sym (drop-cons planes j 0 l))
             ∙ so_far.whole;
       }
     where
@@ -76,19 +76,19 @@ module _ {before : List ℕ} {one carry j : ℕ} {planes : List ℕ} (so_far : C
       after = set planes j sum
 
   -- there is no further plane
-  pub carry-ends : length planes ≤ j → planes ≡ withCarry one before
-  unfolding withCarry
-  carry-ends l =
+  pub carry_ends : length planes ≤ j → planes ≡ with_carry one before
+  unfolding with_carry
+  carry_ends l =
       sym (append-nil planes)
       ∙ ap (λ (front : List ℕ). front ++ []) (sym (take_all j planes l))
-      ∙ ap (λ (rest : List ℕ). take j planes ++ withCarry carry rest) (sym (drop_of_length-le planes l))
+      ∙ ap (λ (rest : List ℕ). take j planes ++ with_carry carry rest) (sym (drop_of_length-le planes l))
       ∙ so_far.whole
 
 -- the sets counted on the way, at place i: those from there on are still to be
 pub record CountingSets (before sets : List ℕ) (count i : ℕ) (planes : List ℕ) : Type 0 where
   pub same : length planes ≡ length before
   pub fits : count ≤ length sets
-  pub rest : countAll planes (drop i (take count sets)) ≡ countAll before (take count sets)
+  pub rest : count_all planes (drop i (take count sets)) ≡ count_all before (take count sets)
 
 -- none is counted, before the first
 pub counts_start : {planes sets : List ℕ} {count : ℕ} → count ≤ length sets → CountingSets planes sets count 0 planes
@@ -96,32 +96,32 @@ counts_start l = record { same = refl; fits = l; rest = refl }
 
 module _ {before sets : List ℕ} {count i : ℕ} {planes : List ℕ} (so_far : CountingSets before sets count i planes) where
   -- one set more
-  pub counts-go : (after : List ℕ) → i < count → after ≡ withCarry (get_or sets i 0) planes → length after ≡ length planes
+  pub counts_go : (after : List ℕ) → i < count → after ≡ with_carry (get_or sets i 0) planes → length after ≡ length planes
       → CountingSets before sets count (i + 1) after
-  unfolding countAll
-  counts-go after l e long =
+  unfolding count_all
+  counts_go after l e long =
       record {
         same = long ∙ so_far.same;
         fits = so_far.fits;
         rest =
-            ap (λ (now : List ℕ). countAll now (drop (i + 1) (take count sets))) e
-            ∙ ap (countAll planes) (sym (next-set sets count i so_far.fits l))
+            ap (λ (now : List ℕ). count_all now (drop (i + 1) (take count sets))) e
+            ∙ ap (count_all planes) (sym (next_set sets count i so_far.fits l))
             ∙ so_far.rest;
       }
 
   -- there is no further set
-  pub counts_end : count ≤ i → planes ≡ countAll before (take count sets)
-  unfolding countAll
-  counts_end l = ap (countAll planes) (sym (no-set sets count i so_far.fits l)) ∙ so_far.rest
+  pub counts_end : count ≤ i → planes ≡ count_all before (take count sets)
+  unfolding count_all
+  counts_end l = ap (count_all planes) (sym (no_set sets count i so_far.fits l)) ∙ so_far.rest
 
 -- narrowing where none of the states is in the plane, and where some are
-pub narrows-none : (states plane : ℕ) → bit_and states plane ≡ 0 → states ≡ narrowed states plane
+pub narrows_none : (states plane : ℕ) → bit_and states plane ≡ 0 → states ≡ narrowed states plane
 unfolding narrowed
-narrows-none states plane e = sym (choose-true states (bit_and states plane) (eq-eqb (bit_and states plane) 0 e))
+narrows_none states plane e = sym (choose_true states (bit_and states plane) (eq-eqb (bit_and states plane) 0 e))
 
-pub narrows-some : (states plane : ℕ) → (bit_and states plane ≡ 0 → ⊥) → bit_and states plane ≡ narrowed states plane
+pub narrows_some : (states plane : ℕ) → (bit_and states plane ≡ 0 → ⊥) → bit_and states plane ≡ narrowed states plane
 unfolding narrowed
-narrows-some states plane f = sym (choose-false states (bit_and states plane) (ne_eqb (bit_and states plane) 0 f))
+narrows_some states plane f = sym (choose_false states (bit_and states plane) (ne_eqb (bit_and states plane) 0 f))
 
 -- narrowing on its way: the states left by the planes from j on
 pub record Narrowing (states : ℕ) (planes : List ℕ) (left j : ℕ) : Type 0 where
@@ -129,15 +129,15 @@ pub record Narrowing (states : ℕ) (planes : List ℕ) (left j : ℕ) : Type 0 
   pub is : left ≡ highest states (drop j planes)
 
 -- all are left, behind the last plane
-pub narrowing-starts : {states : ℕ} {planes : List ℕ} → Narrowing states planes states (length planes)
+pub narrowing_starts : {states : ℕ} {planes : List ℕ} → Narrowing states planes states (length planes)
 unfolding highest
-narrowing-starts {states} {planes} = record { fits = omega arith; is = ap (highest states) (sym (drop-length planes)) }
+narrowing_starts {states} {planes} = record { fits = omega arith; is = ap (highest states) (sym (drop-length planes)) }
 
 module _ {states : ℕ} {planes : List ℕ} {left j : ℕ} (so_far : Narrowing states planes left j) where
   -- one plane more
-  pub narrowing-goes : (fewer : ℕ) → 0 < j → fewer ≡ narrowed left (get_or planes (j - 1) 0) → Narrowing states planes fewer (j - 1)
+  pub narrowing_goes : (fewer : ℕ) → 0 < j → fewer ≡ narrowed left (get_or planes (j - 1) 0) → Narrowing states planes fewer (j - 1)
   unfolding highest
-  narrowing-goes fewer l e =
+  narrowing_goes fewer l e =
       let back : suc (j - 1) ≡ j = omega arith in
       record {
         fits = omega (arith, so_far.fits);
@@ -149,8 +149,8 @@ module _ {states : ℕ} {planes : List ℕ} {left j : ℕ} (so_far : Narrowing s
       }
 
   -- there is no further plane
-  pub narrowing-ends : j ≤ 0 → left ≡ highest states planes
-  narrowing-ends l = let none : j ≡ 0 = omega arith in so_far.is ∙ ap (λ (k : ℕ). highest states (drop k planes)) none
+  pub narrowing_ends : j ≤ 0 → left ≡ highest states planes
+  narrowing_ends l = let none : j ≡ 0 = omega arith in so_far.is ∙ ap (λ (k : ℕ). highest states (drop k planes)) none
 
 -- the count of a state that the planes hold
 unfoldable tally : ℕ → List ℕ → ℕ
@@ -166,61 +166,61 @@ two_digits (suc zero) (suc (suc y)) k l = absurd (omega arith)
 two_digits (suc (suc x)) y k l = absurd (omega arith)
 
 -- there are as many planes as before
-carry-length : (carry : ℕ) (planes : List ℕ) → length (withCarry carry planes) ≡ length planes
-unfolding withCarry
-carry-length carry [] = refl
-carry-length carry (plane ∷ planes) = ap suc (carry-length (bit_and plane carry) planes)
+carry_length : (carry : ℕ) (planes : List ℕ) → length (with_carry carry planes) ≡ length planes
+unfolding with_carry
+carry_length carry [] = refl
+carry_length carry (plane ∷ planes) = ap suc (carry_length (bit_and plane carry) planes)
 
 -- a carry adds one to the count of each of its states, where the planes are enough for it
-tally-carry : (q carry : ℕ) (planes : List ℕ) → tally q planes + digit carry q < 2 ^ length planes
-    → tally q (withCarry carry planes) ≡ tally q planes + digit carry q
-unfolding tally withCarry
-tally-carry q carry [] l = omega arith
-tally-carry q carry (plane ∷ planes) l =
+tally_carry : (q carry : ℕ) (planes : List ℕ) → tally q planes + digit carry q < 2 ^ length planes
+    → tally q (with_carry carry planes) ≡ tally q planes + digit carry q
+unfolding tally with_carry
+tally_carry q carry [] l = omega arith
+tally_carry q carry (plane ∷ planes) l =
     let sum = two_digits (digit plane q) (digit carry q) (omega arith) (omega arith) in
     let room : tally q planes + digit (bit_and plane carry) q < 2 ^ length planes =
     omega (arith, pow-suc 2 (length planes), digit_and plane carry q) in
-    omega (arith, tally-carry q (bit_and plane carry) planes room, digit_and plane carry q, digit-xor plane carry q, sum)
+    omega (arith, tally_carry q (bit_and plane carry) planes room, digit_and plane carry q, digit_xor plane carry q, sum)
 
 -- one set more is one more met by each of its states
-meets-first : (q one : ℕ) (sets : List ℕ) → meets (one ∷ sets) q ≡ digit one q + meets sets q
+meets_first : (q one : ℕ) (sets : List ℕ) → meets (one ∷ sets) q ≡ digit one q + meets sets q
 unfolding meets keep
-meets-first q one sets = at (digit one q) refl (omega arith)
+meets_first q one sets = at (digit one q) refl (omega arith)
   where
     at : (d : ℕ) → digit one q ≡ d → d < 2
         → length (choose (member q one) (one ∷ keep (member q) sets) (keep (member q) sets)) ≡ d + length (keep (member q) sets)
-    at zero e l = ap length (choose-false _ _ (is_false (member q one) (λ t. let i = (member-means q one).0 t in omega arith))) ∙ omega arith
-    at (suc d) e l = ap length (choose-true _ _ (is_true (member q one) ((member-means q one).1 (omega arith)))) ∙ omega arith
+    at zero e l = ap length (choose_false _ _ (is_false (member q one) (λ t. let i = (member_means q one).0 t in omega arith))) ∙ omega arith
+    at (suc d) e l = ap length (choose_true _ _ (is_true (member q one) ((member_means q one).1 (omega arith)))) ∙ omega arith
 
 -- of no sets none is met
-meets-none : (q : ℕ) → meets [] q ≡ 0
+meets_none : (q : ℕ) → meets [] q ≡ 0
 unfolding meets keep
-meets-none q = refl
+meets_none q = refl
 
 -- so the planes count the sets that each state meets, where they are enough for all
-tally-all : (q : ℕ) (planes sets : List ℕ) → tally q planes + meets sets q < 2 ^ length planes
-    → tally q (countAll planes sets) ≡ tally q planes + meets sets q
-unfolding countAll
-tally-all q planes [] l = sym (omega (arith, meets-none q))
-tally-all q planes (one ∷ sets) l =
-    let first = meets-first q one sets in
-    let added = tally-carry q one planes (omega arith) in
-    let room : tally q (withCarry one planes) + meets sets q < 2 ^ length (withCarry one planes) =
-    rw (carry-length one planes) (omega arith) in
-    omega (arith, tally-all q (withCarry one planes) sets room)
+tally_all : (q : ℕ) (planes sets : List ℕ) → tally q planes + meets sets q < 2 ^ length planes
+    → tally q (count_all planes sets) ≡ tally q planes + meets sets q
+unfolding count_all
+tally_all q planes [] l = sym (omega (arith, meets_none q))
+tally_all q planes (one ∷ sets) l =
+    let first = meets_first q one sets in
+    let added = tally_carry q one planes (omega arith) in
+    let room : tally q (with_carry one planes) + meets sets q < 2 ^ length (with_carry one planes) =
+    rw (carry_length one planes) (omega arith) in
+    omega (arith, tally_all q (with_carry one planes) sets room)
 
 -- planes that are all 0 hold no counts
-tally-nothing : (q k : ℕ) → tally q (replicate k 0) ≡ 0
+tally_nothing : (q k : ℕ) → tally q (replicate k 0) ≡ 0
 unfolding tally
-tally-nothing q zero = refl
-tally-nothing q (suc k) = omega (arith, digit-zero q, tally-nothing q k)
+tally_nothing q zero = refl
+tally_nothing q (suc k) = omega (arith, digit_zero q, tally_nothing q k)
 
 -- thirteen planes are enough for fewer than 8,192 sets
-tally-meets : (q : ℕ) (sets : List ℕ) → length sets < 8192 → tally q (countAll (replicate 13 0) sets) ≡ meets sets q
+tally_meets : (q : ℕ) (sets : List ℕ) → length sets < 8192 → tally q (count_all (replicate 13 0) sets) ≡ meets sets q
 unfolding meets
-tally-meets q sets l =
-    let none = tally-nothing q 13 in
-    omega (arith, tally-all q (replicate 13 0) sets (omega (arith, keep-length (member q) sets)))
+tally_meets q sets l =
+    let none = tally_nothing q 13 in
+    omega (arith, tally_all q (replicate 13 0) sets (omega (arith, keep_length (member q) sets)))
 
 -- the states left are those of the states whose count is the highest
 record Highest (states : ℕ) (planes : List ℕ) (left : ℕ) : Type 0 where
@@ -231,9 +231,9 @@ record Highest (states : ℕ) (planes : List ℕ) (left : ℕ) : Type 0 where
 
 -- one plane more, below the others: none of the states left is in it, or some are
 module _ {states : ℕ} {planes : List ℕ} {left : ℕ} (so_far : Highest states planes left) (plane : ℕ) where
-  highest-none : bit_and left plane ≡ 0 → Highest states (plane ∷ planes) left
+  highest_none : bit_and left plane ≡ 0 → Highest states (plane ∷ planes) left
   unfolding tally
-  highest-none e =
+  highest_none e =
       record {
         inside = so_far.inside;
         most = λ q p i s. at q p i s (dec_le (tally q planes) (tally p planes));
@@ -242,16 +242,16 @@ module _ {states : ℕ} {planes : List ℕ} {left : ℕ} (so_far : Highest state
       }
     where
       outside : (q : ℕ) → Member q left → digit plane q ≡ 0
-      outside q i = omega (arith, ap (λ (both : ℕ). digit both q) e, digit-zero q, digit_and left plane q)
+      outside q i = omega (arith, ap (λ (both : ℕ). digit both q) e, digit_zero q, digit_and left plane q)
 
       at : (q p : ℕ) → Member q left → Member p states → Dec (tally q planes ≤ tally p planes)
           → digit plane p + 2 * tally p planes ≤ digit plane q + 2 * tally q planes
       at q p i s (yes h) = omega (arith, outside p (so_far.ties q p i s h), so_far.most q p i s)
       at q p i s (no h) = omega arith
 
-  highest-some : (bit_and left plane ≡ 0 → ⊥) → Highest states (plane ∷ planes) (bit_and left plane)
+  highest_some : (bit_and left plane ≡ 0 → ⊥) → Highest states (plane ∷ planes) (bit_and left plane)
   unfolding tally
-  highest-some f =
+  highest_some f =
       record {
         inside = λ q i. so_far.inside q (first q i);
         most = λ q p i s. omega (arith, second q i, so_far.most q p (first q i) s);
@@ -269,62 +269,62 @@ module _ {states : ℕ} {planes : List ℕ} {left : ℕ} (so_far : Highest state
       second q i = omega (arith, digit_and left plane q)
 
 -- so narrowing by each plane, from the last to the first, leaves them
-highest-left : (states : ℕ) (planes : List ℕ) → Highest states planes (highest states planes)
+highest_left : (states : ℕ) (planes : List ℕ) → Highest states planes (highest states planes)
 unfolding highest tally
-highest-left states [] =
+highest_left states [] =
     record { inside = λ q i. i; most = λ q p i s. omega arith; ties = λ q p i s h. s; nonempty = λ f. f }
-highest-left states (plane ∷ planes) = at (highest-left states planes) (ℕ_discrete (bit_and (highest states planes) plane) 0)
+highest_left states (plane ∷ planes) = at (highest_left states planes) (ℕ_discrete (bit_and (highest states planes) plane) 0)
   where
     at : Highest states planes (highest states planes) → Dec (bit_and (highest states planes) plane ≡ 0)
         → Highest states (plane ∷ planes) (narrowed (highest states planes) plane)
-    at rec (yes e) = subst (Highest states (plane ∷ planes)) (narrows-none _ plane e) (highest-none rec plane e)
-    at rec (no f) = subst (Highest states (plane ∷ planes)) (narrows-some _ plane f) (highest-some rec plane f)
+    at rec (yes e) = subst (Highest states (plane ∷ planes)) (narrows_none _ plane e) (highest_none rec plane e)
+    at rec (no f) = subst (Highest states (plane ∷ planes)) (narrows_some _ plane f) (highest_some rec plane f)
 
 -- what is left of n states: there is one
 module _ (n : ℕ) (planes : List ℕ) (states left : ℕ) (all : states ≡ full n) (narrow : left ≡ highest states planes) where
-  pub some-highest : 1 ≤ n → subset left 0 ≡ false
-  some-highest l = is_false (subset left 0) (λ t. (highest-left states planes).nonempty filled (sym narrow ∙ empty t))
+  pub some_highest : 1 ≤ n → subset left 0 ≡ false
+  some_highest l = is_false (subset left 0) (λ t. (highest_left states planes).nonempty filled (sym narrow ∙ empty t))
     where
       filled : states ≡ 0 → ⊥
-      filled z = empty-members 0 (subst (Member 0) (sym all ∙ z) ((full-members n 0).1 l))
+      filled z = empty_members 0 (subst (Member 0) (sym all ∙ z) ((full_members n 0).1 l))
 
       empty : T (subset left 0) → left ≡ 0
-      empty t = no-members left (λ q i. empty-members q (subset-members left 0 t q i))
+      empty t = no_members left (λ q i. empty_members q (subset_members left 0 t q i))
 
   -- and with all sets counted the lowest is the one to pick
-  pub lowest-highest : (sets : List ℕ) (count state : ℕ) → left < 2 ^ 64 → count ≤ length sets → count < 8192
-      → planes ≡ countAll (replicate 13 0) (take count sets) → lowestAbsent left 0 ≡ some state → Best n (take count sets) state
-  lowest-highest sets count state narrow-left fits few counted e =
+  pub lowest_highest : (sets : List ℕ) (count state : ℕ) → left < 2 ^ 64 → count ≤ length sets → count < 8192
+      → planes ≡ count_all (replicate 13 0) (take count sets) → lowest_absent left 0 ≡ some state → Best n (take count sets) state
+  lowest_highest sets count state narrow_left fits few counted e =
       record {
-        is-best = best-one n state (take count sets) (record {
-          is_state = state-of state chosen;
-          most = λ q l. omega (arith, counts q, counts state, left-highest.most state q chosen (of-state q l));
+        is_best = best_one n state (take count sets) (record {
+          is_state = state_of state chosen;
+          most = λ q l. omega (arith, counts q, counts state, left_highest.most state q chosen (of_state q l));
           lowest = λ q l. at q l (dec_le (meets (take count sets) state) (meets (take count sets) q));
         });
-        fits = digit-above 64 left narrow-left state chosen;
+        fits = digit_above 64 left narrow_left state chosen;
       }
     where
-      left-highest : Highest states planes left
-      left-highest = subst (Highest states planes) (sym narrow) (highest-left states planes)
+      left_highest : Highest states planes left
+      left_highest = subst (Highest states planes) (sym narrow) (highest_left states planes)
 
       counts : (q : ℕ) → tally q planes ≡ meets (take count sets) q
-      counts q = ap (tally q) counted ∙ tally-meets q (take count sets) (omega (arith, length-take-le count sets fits))
+      counts q = ap (tally q) counted ∙ tally_meets q (take count sets) (omega (arith, length-take-le count sets fits))
 
       found : T (absent left 0 state) × ((p : ℕ) → p < state → T (absent left 0 p) → ⊥)
-      found = lowest-found left 0 state e
+      found = lowest_found left 0 state e
 
       chosen : Member state left
-      chosen = ((absent-means left 0 state).0 found.0).0
+      chosen = ((absent_means left 0 state).0 found.0).0
 
-      of-state : (q : ℕ) → q < n → Member q states
-      of-state q l = subst (Member q) (sym all) ((full-members n q).1 l)
+      of_state : (q : ℕ) → q < n → Member q states
+      of_state q l = subst (Member q) (sym all) ((full_members n q).1 l)
 
-      state-of : (q : ℕ) → Member q left → q < n
-      state-of q i = (full-members n q).0 (subst (Member q) all (left-highest.inside q i))
+      state_of : (q : ℕ) → Member q left → q < n
+      state_of q i = (full_members n q).0 (subst (Member q) all (left_highest.inside q i))
 
       at : (q : ℕ) → q < state → Dec (meets (take count sets) state ≤ meets (take count sets) q)
           → meets (take count sets) q < meets (take count sets) state
       at q l (no k) = omega arith
       at q l (yes k) =
-          let tie = left-highest.ties state q chosen (of-state q (omega (arith, state-of state chosen))) (omega (arith, counts q, counts state)) in
-          absurd (found.1 q l ((absent-means left 0 q).1 (tie, empty-members q)))
+          let tie = left_highest.ties state q chosen (of_state q (omega (arith, state_of state chosen))) (omega (arith, counts q, counts state)) in
+          absurd (found.1 q l ((absent_means left 0 q).1 (tie, empty_members q)))

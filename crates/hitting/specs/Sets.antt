@@ -5,7 +5,7 @@ use Rattle.lists.specs.Tests.{choose}
 use Rattle.automata.specs.Image.{Row}
 use Rattle.machine.specs.System.{System}
 use Rattle.machine.specs.Machine.{Blocker}
-use Rattle.machine.specs.Hitting.{RowSource, cover, casesOutside, with_cases, best}
+use Rattle.machine.specs.Hitting.{RowSource, cover, cases_outside, with_cases, best}
 use Rattle.hitting.specs.Slots.{Slotted}
 
 -- the first `count` places of the table hold the sets
@@ -17,7 +17,7 @@ pub record Gathered (sets : List ℕ) (count : ℕ) (table : List ℕ) : Type 0 
 pub record Filled (sets : List ℕ) (count : ℕ) (table slots links : List ℕ) : Type 0 where
   pub gathered : Gathered sets count table
   pub slotted : Slotted sets slots links
-  pub links-fit : length table ≤ length links
+  pub links_fit : length table ≤ length links
   pub narrow : length table < 65536
 
 -- the first places are filled so, and the table has room for these sets
@@ -26,22 +26,22 @@ pub record HasRoom (count : ℕ) (table slots links sets : List ℕ) : Type 0 wh
   pub room : length sets ≤ length table
 
 -- the sets, with what is left of the cases of these rows whose state is outside b
-abbrev pub withRowCases : ℕ → ℕ → List ℕ → List Row → List ℕ
-withRowCases X b sets rows = with_cases X sets (casesOutside b rows)
+abbrev pub with_row_cases : ℕ → ℕ → List ℕ → List Row → List ℕ
+with_row_cases X b sets rows = with_cases X sets (cases_outside b rows)
 
 -- the same of the symbol's rows, with its own b
-abbrev pub withSymbol : System → RowSource → List Blocker → ℕ → ℕ → List ℕ → ℕ → List ℕ
-withSymbol S rows table below X sets s = withRowCases X (cover S.states S.initial table below X (S.backward s X)) sets (rows s)
+abbrev pub with_symbol : System → RowSource → List Blocker → ℕ → ℕ → List ℕ → ℕ → List ℕ
+with_symbol S rows table below X sets s = with_row_cases X (cover S.states S.initial table below X (S.backward s X)) sets (rows s)
 
 -- Counts as planes: bit q of plane j is bit j of the count of state q. One more for each state of a set is an addition with a carry from plane to plane.
-unfoldable pub withCarry : ℕ → List ℕ → List ℕ
-withCarry carry [] = []
-withCarry carry (plane ∷ planes) = bit_xor plane carry ∷ withCarry (bit_and plane carry) planes
+unfoldable pub with_carry : ℕ → List ℕ → List ℕ
+with_carry carry [] = []
+with_carry carry (plane ∷ planes) = bit_xor plane carry ∷ with_carry (bit_and plane carry) planes
 
 -- the planes, with all sets counted
-unfoldable pub countAll : List ℕ → List ℕ → List ℕ
-countAll planes [] = planes
-countAll planes (set ∷ sets) = countAll (withCarry set planes) sets
+unfoldable pub count_all : List ℕ → List ℕ → List ℕ
+count_all planes [] = planes
+count_all planes (set ∷ sets) = count_all (with_carry set planes) sets
 
 -- those of the states that are in the plane, if one is
 unfoldable pub narrowed : ℕ → ℕ → ℕ
@@ -54,5 +54,5 @@ highest states (plane ∷ planes) = narrowed (highest states planes) plane
 
 -- the state that is picked from the sets, and that it fits a mask
 pub record Best (n : ℕ) (sets : List ℕ) (state : ℕ) : Type 0 where
-  pub is-best : state ≡ best n sets
+  pub is_best : state ≡ best n sets
   pub fits : state < 64

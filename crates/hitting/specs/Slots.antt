@@ -18,6 +18,6 @@ slot_at slots sets p = slot_of slots (get_or sets p 0)
 
 -- the slots and the links are those of the sets: the sets are chained by their slots
 pub record Slotted (sets slots links : List ℕ) : Type 0 where
-  pub some-slot : 1 ≤ length slots
+  pub some_slot : 1 ≤ length slots
   pub linked : length sets ≤ length links
   pub chained : Chained (slot_at (length slots) sets) (length sets) slots links

@@ -2,13 +2,13 @@
 // and none is empty. The table has room for all of them.
 ghost use Rattle.std.specs.Prelude.{◌≡◌, [], ◌∷◌, ◌≤◌, ◌<◌, eqb, take};
 ghost use Rattle.lists.specs.Lists.{any};
-ghost use Rattle.automata.specs.Image.{symbolsOf, row_at, rows_of};
-ghost use Rattle.automata.specs.Walk.{RowsStand, Span, rowsBetween};
+ghost use Rattle.automata.specs.Image.{symbols_of, row_at, rows_of};
+ghost use Rattle.automata.specs.Walk.{RowsStand, Span, rows_between};
 ghost use Rattle.automata.specs.Answers.{ReadAs};
-ghost use Rattle.machine.specs.Lending.{blockersNow, blockersBefore};
-ghost use Rattle.machine.specs.Runs.{systemOf};
-ghost use Rattle.machine.specs.Hitting.{cover as coverSet, withSet, toMeet};
-ghost use Rattle.hitting.specs.Sets.{Gathered, Filled, HasRoom, withRowCases, withSymbol};
+ghost use Rattle.machine.specs.Lending.{blockers_now, blockers_before};
+ghost use Rattle.machine.specs.Runs.{system_of};
+ghost use Rattle.machine.specs.Hitting.{cover as cover_set, with_set, to_meet};
+ghost use Rattle.hitting.specs.Sets.{Gathered, Filled, HasRoom, with_row_cases, with_symbol};
 
 use crate::slots::{last_of, link};
 use automata::backward::backward;
@@ -34,8 +34,8 @@ fn is_there(sets: &[u64], slots: &[u16], links: &[u16], count: usize, set: u64) 
 
 // The set enters behind the first `count` unless it is empty or one of them; answers how many there are then.
 fn with_set(sets: &mut [u64], slots: &mut [u16], links: &mut [u16], count: usize, set: u64) -> usize
-    requires { HasRoom count sets.old slots.old links.old (withSet (take count sets.old) set) }
-    ensures { Filled (withSet (take count sets.old) set) result sets.new slots.new links.new }
+    requires { HasRoom count sets.old slots.old links.old (with_set (take count sets.old) set) }
+    ensures { Filled (with_set (take count sets.old) set) result sets.new slots.new links.new }
 {
     if set == 0 {
         return count;
@@ -59,8 +59,8 @@ fn with_row(
     links: &mut [u16],
     count: usize,
 ) -> usize
-    requires { RowsStand image.now 1 at × HasRoom count sets.old slots.old links.old (withRowCases x b (take count sets.old) (row_at image.now at ∷ [])) }
-    ensures { Filled (withRowCases x b (take count sets.old) (row_at image.now at ∷ []))
+    requires { RowsStand image.now 1 at × HasRoom count sets.old slots.old links.old (with_row_cases x b (take count sets.old) (row_at image.now at ∷ [])) }
+    ensures { Filled (with_row_cases x b (take count sets.old) (row_at image.now at ∷ []))
         result sets.new slots.new links.new }
 {
     let row = row_at(image, at);
@@ -83,8 +83,8 @@ fn with_rows(
     count: usize,
 ) -> usize
     requires { Span image.now start end
-        × HasRoom count sets.old slots.old links.old (withRowCases x b (take count sets.old) (rowsBetween image.now start end)) }
-    ensures { Filled (withRowCases x b (take count sets.old) (rowsBetween image.now start end))
+        × HasRoom count sets.old slots.old links.old (with_row_cases x b (take count sets.old) (rows_between image.now start end)) }
+    ensures { Filled (with_row_cases x b (take count sets.old) (rows_between image.now start end))
         result sets.new slots.new links.new }
 {
     let mut total = count;
@@ -99,7 +99,7 @@ fn with_rows(
 // The set b of a symbol whose backward set of x is p.
 fn cover(head: Head, masks: &[u64], levels: &[u32], below: Level, x: u64, p: u64) -> u64
     requires { (1 ≤ head.states) × (head.states ≤ 64) }
-    ensures { result ≡ coverSet head.states head.initial (blockersBefore masks levels) below.0 x p }
+    ensures { result ≡ cover_set head.states head.initial (blockers_before masks levels) below.0 x p }
 {
     if masks::subset(p, x) {
         return x;
@@ -125,11 +125,11 @@ fn with_symbol(
     links: &mut [u16],
     count: usize,
 ) -> usize
-    requires { ReadAs image.now head × (symbol.0 < symbolsOf image.now)
+    requires { ReadAs image.now head × (symbol.0 < symbols_of image.now)
         × HasRoom count sets.old slots.old links.old
-        (withSymbol (systemOf image.now) (rows_of image.now) (blockersNow masks levels) below.0 x (take count sets.old) symbol.0) }
-    ensures { Filled (withSymbol (systemOf image.now) (rows_of image.now)
-        (blockersBefore masks levels) below.0 x (take count sets.old) symbol.0) result sets.new slots.new links.new }
+        (with_symbol (system_of image.now) (rows_of image.now) (blockers_now masks levels) below.0 x (take count sets.old) symbol.0) }
+    ensures { Filled (with_symbol (system_of image.now) (rows_of image.now)
+        (blockers_before masks levels) below.0 x (take count sets.old) symbol.0) result sets.new slots.new links.new }
 {
     let p = backward(image, symbol, x).set;
     let b = cover(head, masks, levels, below, x, p);
@@ -150,9 +150,9 @@ pub(crate) fn gather(
     links: &mut [u16],
 ) -> usize
     requires { ReadAs image.now head
-        × HasRoom 0 sets.old slots.old links.old (toMeet (systemOf image.now) (rows_of image.now) (blockersNow masks levels) below.0 x) }
-    ensures { Gathered (toMeet (systemOf image.now) (rows_of image.now)
-        (blockersBefore masks levels) below.0 x) result sets.new }
+        × HasRoom 0 sets.old slots.old links.old (to_meet (system_of image.now) (rows_of image.now) (blockers_now masks levels) below.0 x) }
+    ensures { Gathered (to_meet (system_of image.now) (rows_of image.now)
+        (blockers_before masks levels) below.0 x) result sets.new }
 {
     let mut count = with_set(sets, slots, links, 0, masks::without(head.initial, x));
     let mut symbol = Symbol(0);

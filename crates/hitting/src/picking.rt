@@ -1,14 +1,14 @@
 // The picks: the state that meets most of the sets not yet met, the lowest of these, until all are met. A set is counted for all its states at once: the
 // counts stand in planes, bit q of plane j being bit j of the count of state q.
 ghost use Rattle.std.specs.Prelude.{◌≡◌, ◌≤◌, ◌<◌, length, take};
-ghost use Rattle.machine.specs.Hitting.{unmet, picked as pickedStates};
-ghost use Rattle.hitting.specs.Sets.{Gathered, withCarry, countAll, narrowed, highest as highestOf, Best};
+ghost use Rattle.machine.specs.Hitting.{unmet, picked as picked_states};
+ghost use Rattle.hitting.specs.Sets.{Gathered, with_carry, count_all, narrowed, highest as highest_of, Best};
 
 use masks::State;
 
 // One more for each state of the set. The carry runs from plane to plane until there is none.
 fn count_set(planes: &mut [u64], set: u64)
-    ensures { planes.new ≡ withCarry set planes.old }
+    ensures { planes.new ≡ with_carry set planes.old }
 {
     let mut carry = set;
     let mut j: usize = 0;
@@ -26,7 +26,7 @@ fn count_set(planes: &mut [u64], set: u64)
 // One more for each state of each of the first `count` sets.
 fn count_sets(planes: &mut [u64], sets: &[u64], count: usize)
     requires { count ≤ length sets.now }
-    ensures { planes.new ≡ countAll planes.old (take count sets.now) }
+    ensures { planes.new ≡ count_all planes.old (take count sets.now) }
 {
     let mut i: usize = 0;
     while i < count {
@@ -48,7 +48,7 @@ fn narrow(states: u64, plane: u64) -> u64
 
 // Those of the states whose count is the highest.
 fn highest(states: u64, planes: &[u64]) -> u64
-    ensures { result ≡ highestOf states planes.now }
+    ensures { result ≡ highest_of states planes.now }
 {
     let mut left = states;
     let mut j = planes.len();
@@ -91,7 +91,7 @@ fn keep_unmet(sets: &mut [u64], count: usize, q: State) -> usize
 // The states picked until the first `count` sets are all met. The table is used up.
 pub(crate) fn pick(n: u8, sets: &mut [u64], count: usize) -> u64
     requires { (1 ≤ n) × (n ≤ 64) × (count ≤ length sets.old) × (count < 8192) }
-    ensures { result ≡ pickedStates n (take count sets.old) }
+    ensures { result ≡ picked_states n (take count sets.old) }
 {
     let mut left = count;
     let mut picked: u64 = 0;

@@ -13,11 +13,11 @@ use lib.Seq.{get_or-set_same, get_or-set_other}
 use Rattle.lists.specs.Tests.{◌or◌}
 use Rattle.lists.specs.Lists.{◌∈◌, here, there, any}
 use Rattle.lists.proofs.Tests.{holds, fails, is_true, is_false, same_test, and_left, and_right}
-use Rattle.lists.proofs.Lists.{Some, in-none, any_some, some-any}
+use Rattle.lists.proofs.Lists.{Some, in_none, any_some, some_any}
 use Rattle.masks.specs.Sets.{subset}
 use Rattle.machine.specs.Machine.{Blocker, covers}
-use Rattle.machine.specs.Lent.{BlockerRoom, blockerAt, blockersFrom, unstampedRoom}
-use Rattle.blockers.proofs.Walks.{next-blocker, no-blocker}
+use Rattle.machine.specs.Lent.{BlockerRoom, blocker_at, blockers_from, unstamped_room}
+use Rattle.blockers.proofs.Walks.{next_blocker, no_blocker}
 use Rattle.indexing.specs.Index.{Next, Listed, Index}
 
 -- a place that is listed stays so when another entry is written behind
@@ -31,21 +31,21 @@ listed_more {places} {end} x l = record {
 -- The gathering before a place: the places before it of this level or more are listed, and only places before it.
 pub record Gathered (level held : ℕ) (masks levels low₀ places₀ : List ℕ) (end place : ℕ) (low places : List ℕ) : Type 0 where
   pub within : place ≤ held
-  pub in-low : end ≤ length low
-  pub in-places : end ≤ length places
-  pub long-low : length low ≡ length low₀
-  pub long-places : length places ≡ length places₀
+  pub in_low : end ≤ length low
+  pub in_places : end ≤ length places
+  pub long_low : length low ≡ length low₀
+  pub long_places : length places ≡ length places₀
   pub listed : (i : ℕ) → i < end → get_or places i 0 < place
   pub halves : (i : ℕ) → i < end → get_or low i 0 ≡ get_or masks (get_or places i 0) 0 % 4294967296
   pub every : (p : ℕ) → p < place → level ≤ get_or levels p 0 → Listed places end p
 
-pub gather-starts : {level held : ℕ} {masks levels low places : List ℕ} → Gathered level held masks levels low places 0 0 low places
-gather-starts = record {
+pub gather_starts : {level held : ℕ} {masks levels low places : List ℕ} → Gathered level held masks levels low places 0 0 low places
+gather_starts = record {
   within = omega arith;
-  in-low = omega arith;
-  in-places = omega arith;
-  long-low = refl;
-  long-places = refl;
+  in_low = omega arith;
+  in_places = omega arith;
+  long_low = refl;
+  long_places = refl;
   listed = λ i l. absurd (omega arith);
   halves = λ i l. absurd (omega arith);
   every = λ p l. absurd (omega arith);
@@ -53,98 +53,98 @@ gather-starts = record {
 
 module _ {level held : ℕ} {masks levels low₀ places₀ : List ℕ} {end place : ℕ} {low places : List ℕ}
     (so_far : Gathered level held masks levels low₀ places₀ end place low places) where
-  pub gather-passes : {b : Bool} → place < held → b ≡ leb level (get_or levels place 0) → not b ≡ true
+  pub gather_passes : {b : Bool} → place < held → b ≡ leb level (get_or levels place 0) → not b ≡ true
       → Gathered level held masks levels low₀ places₀ end (place + 1) low places
-  gather-passes {b} l e n = record {
+  gather_passes {b} l e n = record {
     within = omega arith;
-    in-low = so_far.in-low;
-    in-places = so_far.in-places;
-    long-low = so_far.long-low;
-    long-places = so_far.long-places;
+    in_low = so_far.in_low;
+    in_places = so_far.in_places;
+    long_low = so_far.long_low;
+    long_places = so_far.long_places;
     listed = λ i h. omega (arith, so_far.listed i h);
     halves = so_far.halves;
     every = λ p h high. by p h high (ℕ_discrete p place);
   }
     where
-      low-one : get_or levels place 0 < level
-      low-one = leb-false level (get_or levels place 0) (sym e ∙ not-true b n)
+      low_one : get_or levels place 0 < level
+      low_one = leb-false level (get_or levels place 0) (sym e ∙ not-true b n)
 
       by : (p : ℕ) → p < place + 1 → level ≤ get_or levels p 0 → Dec (p ≡ place) → Listed places end p
-      by p h high (yes same) = absurd (omega (arith, low-one, ap (λ (q : ℕ). get_or levels q 0) same))
+      by p h high (yes same) = absurd (omega (arith, low_one, ap (λ (q : ℕ). get_or levels q 0) same))
       by p h high (no other) = so_far.every p (omega arith) high
 
-  pub gather-fits : end < length low → length low₀ ≡ length places₀ → end < length places
-  gather-fits l even = omega (arith, so_far.long-low, so_far.long-places)
+  pub gather_fits : end < length low → length low₀ ≡ length places₀ → end < length places
+  gather_fits l even = omega (arith, so_far.long_low, so_far.long_places)
 
-  pub gather-lists : {half : ℕ} → half ≡ get_or masks place 0 % 4294967296 → end < length low → length low₀ ≡ length places₀ → place < held
+  pub gather_lists : {half : ℕ} → half ≡ get_or masks place 0 % 4294967296 → end < length low → length low₀ ≡ length places₀ → place < held
       → Gathered level held masks levels low₀ places₀ (end + 1) (place + 1) (set low end half) (set places end place)
-  gather-lists {half} e in-low even l = record {
+  gather_lists {half} e in_low even l = record {
     within = omega arith;
-    in-low = omega (arith, length-set low end half);
-    in-places = omega (arith, length-set places end place);
-    long-low = length-set low end half ∙ so_far.long-low;
-    long-places = length-set places end place ∙ so_far.long-places;
+    in_low = omega (arith, length-set low end half);
+    in_places = omega (arith, length-set places end place);
+    long_low = length-set low end half ∙ so_far.long_low;
+    long_places = length-set places end place ∙ so_far.long_places;
     listed = λ i h. listed_by i h (ℕ_discrete i end);
-    halves = λ i h. halves-by i h (ℕ_discrete i end);
+    halves = λ i h. halves_by i h (ℕ_discrete i end);
     every = λ p h high. by p h high (ℕ_discrete p place);
   }
     where
-      in-places : end < length places
-      in-places = gather-fits in-low even
+      in_places : end < length places
+      in_places = gather_fits in_low even
 
-      old-place : (i : ℕ) → (i ≡ end → ⊥) → get_or (set places end place) i 0 ≡ get_or places i 0
-      old-place i n = get_or-set_other places end i place 0 n
+      old_place : (i : ℕ) → (i ≡ end → ⊥) → get_or (set places end place) i 0 ≡ get_or places i 0
+      old_place i n = get_or-set_other places end i place 0 n
 
-      new-place : get_or (set places end place) end 0 ≡ place
-      new-place = get_or-set_same places end place 0 in-places
+      new_place : get_or (set places end place) end 0 ≡ place
+      new_place = get_or-set_same places end place 0 in_places
 
       listed_by : (i : ℕ) → i < end + 1 → Dec (i ≡ end) → get_or (set places end place) i 0 < place + 1
-      listed_by i h (yes same) = rw same (rw new-place (omega arith))
-      listed_by i h (no other) = rw (old-place i other) (omega (arith, so_far.listed i (omega arith)))
+      listed_by i h (yes same) = rw same (rw new_place (omega arith))
+      listed_by i h (no other) = rw (old_place i other) (omega (arith, so_far.listed i (omega arith)))
 
-      halves-by : (i : ℕ) → i < end + 1 → Dec (i ≡ end)
+      halves_by : (i : ℕ) → i < end + 1 → Dec (i ≡ end)
           → get_or (set low end half) i 0 ≡ get_or masks (get_or (set places end place) i 0) 0 % 4294967296
-      halves-by i h (yes same) = rw same (rw (new-place, get_or-set_same low end half 0 in-low) e)
-      halves-by i h (no other) = rw (old-place i other, get_or-set_other low end i half 0 other) (so_far.halves i (omega arith))
+      halves_by i h (yes same) = rw same (rw (new_place, get_or-set_same low end half 0 in_low) e)
+      halves_by i h (no other) = rw (old_place i other, get_or-set_other low end i half 0 other) (so_far.halves i (omega arith))
 
       by : (p : ℕ) → p < place + 1 → level ≤ get_or levels p 0 → Dec (p ≡ place) → Listed (set places end place) (end + 1) p
-      by p h high (yes same) = record { at = end; below = omega arith; there = new-place ∙ sym same }
+      by p h high (yes same) = record { at = end; below = omega arith; there = new_place ∙ sym same }
       by p h high (no other) =
           let one : suc end ≡ end + 1 = omega arith in
           subst (λ (n : ℕ). Listed (set places end place) n p) one (listed_more place (so_far.every p (omega arith) high))
 
-  module _ (in-masks : held ≤ length masks) (in-levels : held ≤ length levels) where
+  module _ (in_masks : held ≤ length masks) (in_levels : held ≤ length levels) where
     -- as far as there is room
-    pub gather-full : place < held → Index level held place end masks levels low places
-    gather-full l = record {
-      in-masks = in-masks;
-      in-levels = in-levels;
-      in-low = so_far.in-low;
-      in-places = so_far.in-places;
+    pub gather_full : place < held → Index level held place end masks levels low places
+    gather_full l = record {
+      in_masks = in_masks;
+      in_levels = in_levels;
+      in_low = so_far.in_low;
+      in_places = so_far.in_places;
       within = omega arith;
-      held-places = λ i h. omega (arith, so_far.listed i h);
+      held_places = λ i h. omega (arith, so_far.listed i h);
       halves = so_far.halves;
       every = so_far.every;
     }
 
-    pub gather-ends : held ≤ place → Index level held held end masks levels low places
-    gather-ends l =
+    pub gather_ends : held ≤ place → Index level held held end masks levels low places
+    gather_ends l =
         let same : place ≡ held = omega (arith, so_far.within) in
         record {
-          in-masks = in-masks;
-          in-levels = in-levels;
-          in-low = so_far.in-low;
-          in-places = so_far.in-places;
+          in_masks = in_masks;
+          in_levels = in_levels;
+          in_low = so_far.in_low;
+          in_places = so_far.in_places;
           within = omega arith;
-          held-places = λ i h. omega (arith, so_far.listed i h);
+          held_places = λ i h. omega (arith, so_far.listed i h);
           halves = so_far.halves;
           every = λ p h high. so_far.every p (omega arith) high;
         }
 
 -- a set's low half is inside the low half of a set that contains it
-pub low-inside : (a b : ℕ) → T (subset a b) → subset (a % 4294967296) (b % 4294967296) ≡ true
+pub low_inside : (a b : ℕ) → T (subset a b) → subset (a % 4294967296) (b % 4294967296) ≡ true
 unfolding subset
-low-inside a b t =
+low_inside a b t =
     let e : bit_and a b ≡ a = eqb-true (bit_and a b) a (is_true _ t) in
     eq-eqb _ _ (sym (and_mod a b 32) ∙ ap (λ (x : ℕ). x % 4294967296) e)
 
@@ -153,108 +153,108 @@ record Placing (room : BlockerRoom) (count at : ℕ) (blocker : Blocker) : Type 
   place : ℕ
   above : at ≤ place
   below : place < at + count
-  is : blocker ≡ blockerAt room place
+  is : blocker ≡ blocker_at room place
 
-placing : (room : BlockerRoom) (count at : ℕ) {blocker : Blocker} → blocker ∈ blockersFrom room count at → Placing room count at blocker
-unfolding blockersFrom
-placing room zero at m = absurd (in-none m)
+placing : (room : BlockerRoom) (count at : ℕ) {blocker : Blocker} → blocker ∈ blockers_from room count at → Placing room count at blocker
+unfolding blockers_from
+placing room zero at m = absurd (in_none m)
 placing room (suc count) at (here e) = record { place = at; above = omega arith; below = omega arith; is = e }
 placing room (suc count) at (there m) =
     let p = placing room count (suc at) m in
     record { place = p.place; above = omega (arith, p.above); below = omega (arith, p.below); is = p.is }
 
-placed-in : (room : BlockerRoom) (count at place : ℕ) → at ≤ place → place < at + count → blockerAt room place ∈ blockersFrom room count at
-unfolding blockersFrom
-placed-in room zero at place l h = absurd (omega arith)
-placed-in room (suc count) at place l h = by (ℕ_discrete place at) (λ m. placed-in room count (suc at) place m (omega arith))
+placed_in : (room : BlockerRoom) (count at place : ℕ) → at ≤ place → place < at + count → blocker_at room place ∈ blockers_from room count at
+unfolding blockers_from
+placed_in room zero at place l h = absurd (omega arith)
+placed_in room (suc count) at place l h = by (ℕ_discrete place at) (λ m. placed_in room count (suc at) place m (omega arith))
   where
-    by : Dec (place ≡ at) → (suc at ≤ place → blockerAt room place ∈ blockersFrom room count (suc at))
-        → blockerAt room place ∈ (blockerAt room at ∷ blockersFrom room count (suc at))
-    by (yes e) rec = here (ap (blockerAt room) e)
+    by : Dec (place ≡ at) → (suc at ≤ place → blocker_at room place ∈ blockers_from room count (suc at))
+        → blocker_at room place ∈ (blocker_at room at ∷ blockers_from room count (suc at))
+    by (yes e) rec = here (ap (blocker_at room) e)
     by (no n) rec = there (rec (omega arith))
 
 -- The search of the index for a blocker that covers the case, before entry i: none listed before it does. What is next has the case's low half.
 pub record Sought (level held upto end : ℕ) (masks levels low places : List ℕ) (case i : ℕ) : Type 0 where
   pub index : Index level held upto end masks levels low places
   pub within : i ≤ end
-  pub missed : (k : ℕ) → k < i → covers level case (blockerAt (unstampedRoom masks levels) (get_or places k 0)) ≡ false
+  pub missed : (k : ℕ) → k < i → covers level case (blocker_at (unstamped_room masks levels) (get_or places k 0)) ≡ false
 
 module _ {level held upto end : ℕ} {masks levels low places : List ℕ} (index : Index level held upto end masks levels low places) (case : ℕ) {half : ℕ}
     (e : half ≡ case % 4294967296) where
-  not-half : (k : ℕ) → k < end → subset half (get_or low k 0) ≡ false → covers level case (blockerAt (unstampedRoom masks levels) (get_or places k 0)) ≡ false
+  not_half : (k : ℕ) → k < end → subset half (get_or low k 0) ≡ false → covers level case (blocker_at (unstamped_room masks levels) (get_or places k 0)) ≡ false
   unfolding covers
-  not-half k l f =
+  not_half k l f =
       is_false _ (λ t. fails (rw (e, index.halves k l) at f)
-      (holds (low-inside case (get_or masks (get_or places k 0) 0) (and_right (leb level (get_or levels (get_or places k 0) 0)) _ t))))
+      (holds (low_inside case (get_or masks (get_or places k 0) 0) (and_right (leb level (get_or levels (get_or places k 0) 0)) _ t))))
 
   passing : {from i : ℕ} → Next (λ other. subset half other) low from end i
-      → ((k : ℕ) → k < from → covers level case (blockerAt (unstampedRoom masks levels) (get_or places k 0)) ≡ false)
+      → ((k : ℕ) → k < from → covers level case (blocker_at (unstamped_room masks levels) (get_or places k 0)) ≡ false)
       → Sought level held upto end masks levels low places case i
   passing {from} {i} next before = record { index = index; within = next.before.within; missed = λ k l. by k l (dec_le from k) }
     where
-      by : (k : ℕ) → k < i → Dec (from ≤ k) → covers level case (blockerAt (unstampedRoom masks levels) (get_or places k 0)) ≡ false
-      by k l (yes m) = not-half k (omega (arith, next.before.within)) (next.before.passed k m l)
+      by : (k : ℕ) → k < i → Dec (from ≤ k) → covers level case (blocker_at (unstamped_room masks levels) (get_or places k 0)) ≡ false
+      by k l (yes m) = not_half k (omega (arith, next.before.within)) (next.before.passed k m l)
       by k l (no m) = before k (omega arith)
 
-  pub seek-starts : {i : ℕ} → Next (λ other. subset half other) low 0 end i → Sought level held upto end masks levels low places case i
-  seek-starts next = passing next (λ k l. absurd (omega arith))
+  pub seek_starts : {i : ℕ} → Next (λ other. subset half other) low 0 end i → Sought level held upto end masks levels low places case i
+  seek_starts next = passing next (λ k l. absurd (omega arith))
 
 module _ {level held upto end : ℕ} {masks levels low places : List ℕ} {case i : ℕ} (so_far : Sought level held upto end masks levels low places case i) where
-  pub seek-place : {place : ℕ} → place ≡ get_or places i 0 → i < end → place < length masks
-  seek-place e l = omega (arith, so_far.index.held-places i l, so_far.index.in-masks)
+  pub seek_place : {place : ℕ} → place ≡ get_or places i 0 → i < end → place < length masks
+  seek_place e l = omega (arith, so_far.index.held_places i l, so_far.index.in_masks)
 
-  pub seek-level : {place : ℕ} → place ≡ get_or places i 0 → i < end → place < length levels
-  seek-level e l = omega (arith, so_far.index.held-places i l, so_far.index.in-levels)
+  pub seek_level : {place : ℕ} → place ≡ get_or places i 0 → i < end → place < length levels
+  seek_level e l = omega (arith, so_far.index.held_places i l, so_far.index.in_levels)
 
   module _ {b : Bool} {place : ℕ} (l : i < end) (same_place : place ≡ get_or places i 0)
-      (there : b ≡ covers level case (blockerAt (unstampedRoom masks levels) place)) where
-    test : b ≡ covers level case (blockerAt (unstampedRoom masks levels) (get_or places i 0))
-    test = there ∙ ap (λ (p : ℕ). covers level case (blockerAt (unstampedRoom masks levels) p)) same_place
+      (there : b ≡ covers level case (blocker_at (unstamped_room masks levels) place)) where
+    test : b ≡ covers level case (blocker_at (unstamped_room masks levels) (get_or places i 0))
+    test = there ∙ ap (λ (p : ℕ). covers level case (blocker_at (unstamped_room masks levels) p)) same_place
 
-    pub seek_finds : b ≡ true → true ≡ any (covers level case) (blockersFrom (unstampedRoom masks levels) held 0)
+    pub seek_finds : b ≡ true → true ≡ any (covers level case) (blockers_from (unstamped_room masks levels) held 0)
     seek_finds t =
-        let below : get_or places i 0 < 0 + held = omega (arith, so_far.index.held-places i l) in
-        sym (is_true _ (some-any (covers level case) _ _ (placed-in (unstampedRoom masks levels) held 0 (get_or places i 0) (omega arith) below)
+        let below : get_or places i 0 < 0 + held = omega (arith, so_far.index.held_places i l) in
+        sym (is_true _ (some_any (covers level case) _ _ (placed_in (unstamped_room masks levels) held 0 (get_or places i 0) (omega arith) below)
         (holds (sym test ∙ t))))
 
-    pub seek-goes : b ≡ false → {half next : ℕ} → half ≡ case % 4294967296 → Next (λ other. subset half other) low (i + 1) end next
+    pub seek_goes : b ≡ false → {half next : ℕ} → half ≡ case % 4294967296 → Next (λ other. subset half other) low (i + 1) end next
         → Sought level held upto end masks levels low places case next
-    seek-goes f e next = passing so_far.index case e next (λ k h. by k h (ℕ_discrete k i))
+    seek_goes f e next = passing so_far.index case e next (λ k h. by k h (ℕ_discrete k i))
       where
-        by : (k : ℕ) → k < i + 1 → Dec (k ≡ i) → covers level case (blockerAt (unstampedRoom masks levels) (get_or places k 0)) ≡ false
+        by : (k : ℕ) → k < i + 1 → Dec (k ≡ i) → covers level case (blocker_at (unstamped_room masks levels) (get_or places k 0)) ≡ false
         by k h (yes same) = rw same (sym test ∙ f)
         by k h (no other) = so_far.missed k (omega arith)
 
-  pub seek-ends : {r : Bool} → end ≤ i → r ≡ any (covers level case) (blockersFrom (unstampedRoom masks levels) (held - upto) upto)
-      → r ≡ any (covers level case) (blockersFrom (unstampedRoom masks levels) held 0)
+  pub seek_ends : {r : Bool} → end ≤ i → r ≡ any (covers level case) (blockers_from (unstamped_room masks levels) (held - upto) upto)
+      → r ≡ any (covers level case) (blockers_from (unstamped_room masks levels) held 0)
   unfolding covers
-  seek-ends l e = e ∙ same_test _ _ (λ t. all t) (λ t. rest t)
+  seek_ends l e = e ∙ same_test _ _ (λ t. all t) (λ t. rest t)
     where
-      all : T (any (covers level case) (blockersFrom (unstampedRoom masks levels) (held - upto) upto))
-          → T (any (covers level case) (blockersFrom (unstampedRoom masks levels) held 0))
+      all : T (any (covers level case) (blockers_from (unstamped_room masks levels) (held - upto) upto))
+          → T (any (covers level case) (blockers_from (unstamped_room masks levels) held 0))
       all t =
           let some = any_some (covers level case) _ t in
-          let p = placing (unstampedRoom masks levels) (held - upto) upto some.listed in
-          some-any (covers level case) _ _ (placed-in (unstampedRoom masks levels) held 0 p.place (omega arith) (omega (arith, p.below, so_far.index.within)))
+          let p = placing (unstamped_room masks levels) (held - upto) upto some.listed in
+          some_any (covers level case) _ _ (placed_in (unstamped_room masks levels) held 0 p.place (omega arith) (omega (arith, p.below, so_far.index.within)))
           (rw p.is at some.passes)
 
-      rest : T (any (covers level case) (blockersFrom (unstampedRoom masks levels) held 0))
-          → T (any (covers level case) (blockersFrom (unstampedRoom masks levels) (held - upto) upto))
+      rest : T (any (covers level case) (blockers_from (unstamped_room masks levels) held 0))
+          → T (any (covers level case) (blockers_from (unstamped_room masks levels) (held - upto) upto))
       rest t = by (dec_le upto p.place)
         where
-          some : Some (covers level case) (blockersFrom (unstampedRoom masks levels) held 0)
+          some : Some (covers level case) (blockers_from (unstamped_room masks levels) held 0)
           some = any_some (covers level case) _ t
 
-          p : Placing (unstampedRoom masks levels) held 0 some.element
-          p = placing (unstampedRoom masks levels) held 0 some.listed
+          p : Placing (unstamped_room masks levels) held 0 some.element
+          p = placing (unstamped_room masks levels) held 0 some.listed
 
-          passes : T (covers level case (blockerAt (unstampedRoom masks levels) p.place))
+          passes : T (covers level case (blocker_at (unstamped_room masks levels) p.place))
           passes = rw p.is at some.passes
 
-          by : Dec (upto ≤ p.place) → T (any (covers level case) (blockersFrom (unstampedRoom masks levels) (held - upto) upto))
+          by : Dec (upto ≤ p.place) → T (any (covers level case) (blockers_from (unstamped_room masks levels) (held - upto) upto))
           by (yes h) =
-              some-any (covers level case) _ _
-              (placed-in (unstampedRoom masks levels) (held - upto) upto p.place h (omega (arith, p.below, so_far.index.within))) passes
+              some_any (covers level case) _ _
+              (placed_in (unstamped_room masks levels) (held - upto) upto p.place h (omega (arith, p.below, so_far.index.within))) passes
           by (no h) =
               let high : level ≤ get_or levels p.place 0 = leb→le level (get_or levels p.place 0) (and_left _ _ passes) in
               let listed = so_far.index.every p.place (omega arith) high in
@@ -262,22 +262,22 @@ module _ {level held upto end : ℕ} {masks levels low places : List ℕ} {case 
 
 -- The walk over blockers that are not listed, before place i: what is left of it decides.
 pub record Rest (masks levels : List ℕ) (from to level case i : ℕ) : Type 0 where
-  pub left : any (covers level case) (blockersFrom (unstampedRoom masks levels) (to - i) i)
-      ≡ any (covers level case) (blockersFrom (unstampedRoom masks levels) (to - from) from)
+  pub left : any (covers level case) (blockers_from (unstamped_room masks levels) (to - i) i)
+      ≡ any (covers level case) (blockers_from (unstamped_room masks levels) (to - from) from)
 
-pub rest-starts : {masks levels : List ℕ} {from to level case : ℕ} → Rest masks levels from to level case from
-rest-starts = record { left = refl }
+pub rest_starts : {masks levels : List ℕ} {from to level case : ℕ} → Rest masks levels from to level case from
+rest_starts = record { left = refl }
 
 module _ {masks levels : List ℕ} {from to level case i : ℕ} (so_far : Rest masks levels from to level case i) where
-  module _ {b : Bool} (l : i < to) (test : b ≡ covers level case (blockerAt (unstampedRoom masks levels) i)) where
-    pub rest-finds : b ≡ true → true ≡ any (covers level case) (blockersFrom (unstampedRoom masks levels) (to - from) from)
+  module _ {b : Bool} (l : i < to) (test : b ≡ covers level case (blocker_at (unstamped_room masks levels) i)) where
+    pub rest_finds : b ≡ true → true ≡ any (covers level case) (blockers_from (unstamped_room masks levels) (to - from) from)
     unfolding any ◌or◌
-    rest-finds t = sym (sym so_far.left ∙ rw (next-blocker (unstampedRoom masks levels) to i l, sym test ∙ t))
+    rest_finds t = sym (sym so_far.left ∙ rw (next_blocker (unstamped_room masks levels) to i l, sym test ∙ t))
 
     pub rest_goes : b ≡ false → Rest masks levels from to level case (i + 1)
     unfolding any ◌or◌
-    rest_goes f = record { left = sym (rw (next-blocker (unstampedRoom masks levels) to i l, sym test ∙ f)) ∙ so_far.left }
+    rest_goes f = record { left = sym (rw (next_blocker (unstamped_room masks levels) to i l, sym test ∙ f)) ∙ so_far.left }
 
-  pub rest-ends : to ≤ i → false ≡ any (covers level case) (blockersFrom (unstampedRoom masks levels) (to - from) from)
+  pub rest_ends : to ≤ i → false ≡ any (covers level case) (blockers_from (unstamped_room masks levels) (to - from) from)
   unfolding any
-  rest-ends l = sym (sym so_far.left ∙ rw (no-blocker (unstampedRoom masks levels) to i l))
+  rest_ends l = sym (sym so_far.left ∙ rw (no_blocker (unstamped_room masks levels) to i l))

@@ -27,35 +27,35 @@ pub record Listed (places : List ℕ) (end p : ℕ) : Type 0 where
 
 -- The first `end` entries list places of blockers held, each with the low half of its mask, and every place before `upto` of this level or more is among them.
 pub record Index (level held upto end : ℕ) (masks levels low places : List ℕ) : Type 0 where
-  pub in-masks : held ≤ length masks
-  pub in-levels : held ≤ length levels
-  pub in-low : end ≤ length low
-  pub in-places : end ≤ length places
+  pub in_masks : held ≤ length masks
+  pub in_levels : held ≤ length levels
+  pub in_low : end ≤ length low
+  pub in_places : end ≤ length places
   pub within : upto ≤ held
-  pub held-places : (i : ℕ) → i < end → get_or places i 0 < held
+  pub held_places : (i : ℕ) → i < end → get_or places i 0 < held
   pub halves : (i : ℕ) → i < end → get_or low i 0 ≡ get_or masks (get_or places i 0) 0 % 4294967296
   pub every : (p : ℕ) → p < upto → level ≤ get_or levels p 0 → Listed places end p
 
 -- the states below 32 that a mask lacks
-abbrev pub lackOf : ℕ → ℕ
-lackOf mask = without 4294967295 mask % 4294967296
+abbrev pub lack_of : ℕ → ℕ
+lack_of mask = without 4294967295 mask % 4294967296
 
 -- a table has for each of the first `held` masks, as far as it reaches, what the mask lacks
 pub record Noted (held : ℕ) (masks lacks : List ℕ) : Type 0 where
-  pub each : (i : ℕ) → i < held → i < length lacks → get_or lacks i 0 ≡ lackOf (get_or masks i 0)
+  pub each : (i : ℕ) → i < held → i < length lacks → get_or lacks i 0 ≡ lack_of (get_or masks i 0)
 
 -- the level of a blocker once Y, of this mask and level, has risen: 0 where it leaves for Y
-unfoldable pub sunkLevel : ℕ → ℕ → ℕ → ℕ → ℕ
-sunkLevel Ymask Ylevel mask level = choose (leb level Ylevel and subset mask Ymask) 0 level
+unfoldable pub sunk_level : ℕ → ℕ → ℕ → ℕ → ℕ
+sunk_level Ymask Ylevel mask level = choose (leb level Ylevel and subset mask Ymask) 0 level
 
 -- the first `held` levels once those that leave for a blocker of this mask and level have sunk to 0; all else is as before
 pub record Sunk (mask level held : ℕ) (masks levels levels' : List ℕ) : Type 0 where
   pub behind : drop held levels' ≡ drop held levels
-  pub each : (i : ℕ) → i < held → get_or levels' i 0 ≡ sunkLevel mask level (get_or masks i 0) (get_or levels i 0)
+  pub each : (i : ℕ) → i < held → get_or levels' i 0 ≡ sunk_level mask level (get_or masks i 0) (get_or levels i 0)
 
 -- the first `held` levels once the blocker at `place` has risen and the others that leave for it have sunk to 0; all else is as before
 pub record RisenIn (place held : ℕ) (masks levels levels' : List ℕ) : Type 0 where
   pub behind : drop held levels' ≡ drop held levels
   pub risen : get_or levels' place 0 ≡ suc (get_or levels place 0)
   pub others : (i : ℕ) → i < held → (i ≡ place → ⊥)
-      → get_or levels' i 0 ≡ sunkLevel (get_or masks place 0) (suc (get_or levels place 0)) (get_or masks i 0) (get_or levels i 0)
+      → get_or levels' i 0 ≡ sunk_level (get_or masks place 0) (suc (get_or levels place 0)) (get_or masks i 0) (get_or levels i 0)

@@ -2,9 +2,9 @@
 // places than the level has: each is looked up before it counts.
 ghost use Rattle.std.specs.Prelude.{◌≡◌, ◌-◌, ◌≤◌, ◌<◌, length};
 ghost use Rattle.lists.specs.Lists.{any};
-ghost use Rattle.machine.specs.Machine.{covers as coversCase};
-ghost use Rattle.machine.specs.Lent.{blockersFrom};
-ghost use Rattle.machine.specs.Lending.{unstampedBefore};
+ghost use Rattle.machine.specs.Machine.{covers as covers_case};
+ghost use Rattle.machine.specs.Lent.{blockers_from};
+ghost use Rattle.machine.specs.Lending.{unstamped_before};
 ghost use Rattle.indexing.specs.Index.{Index};
 
 use crate::searching;
@@ -67,7 +67,7 @@ fn is_covered_from(
     case: u64,
 ) -> bool
     requires { (to ≤ length masks.now) × (to ≤ length levels.now) }
-    ensures { result ≡ any (coversCase level.0 case) (blockersFrom (unstampedBefore masks levels) (to - from) from) }
+    ensures { result ≡ any (covers_case level.0 case) (blockers_from (unstamped_before masks levels) (to - from) from) }
 {
     let mut i = from;
     while i < to {
@@ -91,7 +91,7 @@ pub fn is_covered(
     case: u64,
 ) -> bool
     requires { Index level.0 held listed.upto listed.end masks.now levels.now low.now places.now }
-    ensures { result ≡ any (coversCase level.0 case) (blockersFrom (unstampedBefore masks levels) held 0) }
+    ensures { result ≡ any (covers_case level.0 case) (blockers_from (unstamped_before masks levels) held 0) }
 {
     let half = searching::low_half(case);
     let end = listed.end;

@@ -2,15 +2,15 @@
 // lack, noted side by side: a subset lacks whatever the set lacks.
 ghost use Rattle.std.specs.Prelude.{◌≡◌, ◌≤◌, ◌<◌, min, leb, length, get_or};
 ghost use Rattle.lists.specs.Tests.{choose};
-ghost use Rattle.masks.specs.Sets.{subset as isSubset};
-ghost use Rattle.indexing.specs.Index.{Next, lackOf, Noted, Sunk, RisenIn};
+ghost use Rattle.masks.specs.Sets.{subset as is_subset};
+ghost use Rattle.indexing.specs.Index.{Next, lack_of, Noted, Sunk, RisenIn};
 
 use crate::searching;
 use blockers::Level;
 
 // The states below 32 that the mask lacks.
 fn lacked(mask: u64) -> u32
-    ensures { result ≡ lackOf mask }
+    ensures { result ≡ lack_of mask }
 {
     searching::low_half(masks::without(4294967295, mask))
 }
@@ -43,7 +43,7 @@ fn noted(held: usize, lacks: &[u32]) -> usize
 // The first of the masks from `from` on and before `to` that is a subset of this one, or `to`, by what they lack.
 fn next_by_lack(masks: &[u64], lacks: &[u32], from: usize, to: usize, mask: u64) -> usize
     requires { Noted to masks.now lacks.now × (from ≤ to) × (to ≤ length masks.now) × (to ≤ length lacks.now) }
-    ensures { Next (λ other. isSubset other mask) masks.now from to result }
+    ensures { Next (λ other. is_subset other mask) masks.now from to result }
 {
     let lack = lacked(mask);
     let mut i = searching::next_containing(lacks, from, to, lack);
@@ -59,7 +59,7 @@ fn next_by_lack(masks: &[u64], lacks: &[u32], from: usize, to: usize, mask: u64)
 // The same, mask by mask.
 fn next_from(masks: &[u64], from: usize, to: usize, mask: u64) -> usize
     requires { (from ≤ to) × (to ≤ length masks.now) }
-    ensures { Next (λ other. isSubset other mask) masks.now from to result }
+    ensures { Next (λ other. is_subset other mask) masks.now from to result }
 {
     let mut i = from;
     while i < to {
@@ -74,7 +74,7 @@ fn next_from(masks: &[u64], from: usize, to: usize, mask: u64) -> usize
 // The same, by what they lack where that is noted.
 fn next_inside(masks: &[u64], lacks: &[u32], from: usize, held: usize, mask: u64) -> usize
     requires { Noted held masks.now lacks.now × (from ≤ held) × (held ≤ length masks.now) }
-    ensures { Next (λ other. isSubset other mask) masks.now from held result }
+    ensures { Next (λ other. is_subset other mask) masks.now from held result }
 {
     let end = noted(held, lacks);
     if end < from {

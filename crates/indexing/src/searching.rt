@@ -1,13 +1,13 @@
 // Searches along a table for the first place that passes a test. Sixteen places are tested before a branch asks, so that the compiler tests them at once.
 ghost use Rattle.std.specs.Prelude.{◌≡◌, ◌+◌, ◌≤◌, ◌%◌, length, eqb};
-ghost use Rattle.masks.specs.Sets.{subset as isSubset};
+ghost use Rattle.masks.specs.Sets.{subset as is_subset};
 ghost use Rattle.indexing.specs.Index.{NoneOf, Passed, Next};
 
 use blockers::Level;
 
 // Whether each state of a is in b, of sets of the states below 32.
 pub fn subset_low(a: u32, b: u32) -> bool
-    ensures { result ≡ isSubset a b }
+    ensures { result ≡ is_subset a b }
 {
     a & b == a
 }
@@ -68,7 +68,7 @@ pub fn next_at(levels: &[u32], from: usize, to: usize, level: Level) -> usize
 // Whether one of the sixteen sets from `at` on contains this one.
 fn sixteen_contain(low: &[u32], at: usize, set: u32) -> bool
     requires { at + 16 ≤ length low.now }
-    ensures { NoneOf (λ other. isSubset set other) low.now at 16 result }
+    ensures { NoneOf (λ other. is_subset set other) low.now at 16 result }
 {
     let mut found = false;
     for i in 0..16usize {
@@ -81,7 +81,7 @@ fn sixteen_contain(low: &[u32], at: usize, set: u32) -> bool
 // reach behind `to`.
 fn pass_sets(low: &[u32], from: usize, to: usize, set: u32) -> usize
     requires { (from ≤ to) × (to ≤ length low.now) }
-    ensures { Passed (λ other. isSubset set other) low.now from to result }
+    ensures { Passed (λ other. is_subset set other) low.now from to result }
 {
     let mut i = from;
     while i < to {
@@ -99,7 +99,7 @@ fn pass_sets(low: &[u32], from: usize, to: usize, set: u32) -> usize
 // The first of the sets from `from` on and before `to` that contains this one, or `to`.
 pub fn next_containing(low: &[u32], from: usize, to: usize, set: u32) -> usize
     requires { (from ≤ to) × (to ≤ length low.now) }
-    ensures { Next (λ other. isSubset set other) low.now from to result }
+    ensures { Next (λ other. is_subset set other) low.now from to result }
 {
     let mut i = pass_sets(low, from, to, set);
     while i < to {

@@ -12,20 +12,20 @@ use lib.Dec.{T}
 use lib.ListN.{length, get_or, take, drop, take-append-drop, drop_of_length-le}
 use lib.Seq.{drop-cons}
 use Rattle.lists.specs.Tests.{◌and◌, ◌or◌, choose}
-use Rattle.lists.specs.Lists.{◌∈◌, here, there, Each, any, all, keep, first_of, IsFirst, firstFrom, or_else, eachFrom}
-use Rattle.lists.proofs.Tests.{holds, fails, and_left, and_right, and_both, or_cases, or_left, or_right, or-joined, decide}
+use Rattle.lists.specs.Lists.{◌∈◌, here, there, Each, any, all, keep, first_of, IsFirst, first_from, or_else, each_from}
+use Rattle.lists.proofs.Tests.{holds, fails, and_left, and_right, and_both, or_cases, or_left, or_right, or_joined, decide}
 
 module _ {A : Type 0} where
-  pub in-none : {x : A} → x ∈ [] → ⊥
-  in-none m = elim m [ ]
+  pub in_none : {x : A} → x ∈ [] → ⊥
+  in_none m = elim m [ ]
 
-  pub in-cases : {x y : A} {l : List A} → x ∈ (y ∷ l) → (x ≡ y) ⊎ x ∈ l
-  in-cases (here e) = inl e
-  in-cases (there m) = inr m
+  pub in_cases : {x y : A} {l : List A} → x ∈ (y ∷ l) → (x ≡ y) ⊎ x ∈ l
+  in_cases (here e) = inl e
+  in_cases (there m) = inr m
 
-  pub in-length : {x : A} {l : List A} → x ∈ l → 1 ≤ length l
-  in-length (here e) = omega arith
-  in-length (there m) = omega arith
+  pub in_length : {x : A} {l : List A} → x ∈ l → 1 ≤ length l
+  in_length (here e) = omega arith
+  in_length (there m) = omega arith
 
   -- ++
   pub in_left : {x : A} {a : List A} (b : List A) → x ∈ a → x ∈ (a ++ b)
@@ -38,7 +38,7 @@ module _ {A : Type 0} where
 
   pub in_either : {x : A} (a b : List A) → x ∈ (a ++ b) → x ∈ a ⊎ x ∈ b
   in_either [] b m = inr m
-  in_either {x} (y ∷ a) b m = at (λ h. in_either a b h) (in-cases m)
+  in_either {x} (y ∷ a) b m = at (λ h. in_either a b h) (in_cases m)
     where
       at : (x ∈ (a ++ b) → x ∈ a ⊎ x ∈ b) → (x ≡ y) ⊎ x ∈ (a ++ b) → x ∈ (y ∷ a) ⊎ x ∈ b
       at rec (inl e) = inl (here e)
@@ -50,15 +50,15 @@ module _ {A : Type 0} where
 
   -- the elements beside one are elements, and an element is that one or beside it
   module _ {x : A} (y : A) where
-    pub beside-in : (a b : List A) → x ∈ (a ++ b) → x ∈ (a ++ y ∷ b)
-    beside-in [] b m = there m
-    beside-in (z ∷ a) b (here e) = here e
-    beside-in (z ∷ a) b (there m) = there (beside-in a b m)
+    pub beside_in : (a b : List A) → x ∈ (a ++ b) → x ∈ (a ++ y ∷ b)
+    beside_in [] b m = there m
+    beside_in (z ∷ a) b (here e) = here e
+    beside_in (z ∷ a) b (there m) = there (beside_in a b m)
 
-    pub in-beside : (a b : List A) → x ∈ (a ++ y ∷ b) → (x ≡ y) ⊎ x ∈ (a ++ b)
-    in-beside [] b m = in-cases m
-    in-beside (z ∷ a) b (here e) = inr (here e)
-    in-beside (z ∷ a) b (there m) = at (in-beside a b m)
+    pub in_beside : (a b : List A) → x ∈ (a ++ y ∷ b) → (x ≡ y) ⊎ x ∈ (a ++ b)
+    in_beside [] b m = in_cases m
+    in_beside (z ∷ a) b (here e) = inr (here e)
+    in_beside (z ∷ a) b (there m) = at (in_beside a b m)
       where
         at : (x ≡ y) ⊎ x ∈ (a ++ b) → (x ≡ y) ⊎ x ∈ (z ∷ a ++ b)
         at (inl e) = inl e
@@ -68,12 +68,12 @@ module _ {A : Type 0} where
   pub in_taken : {x : A} (i : ℕ) (l : List A) → x ∈ take i l → x ∈ l
   in_taken {x} i l m = subst (λ (whole : List A). x ∈ whole) (take-append-drop i l) (in_left (drop i l) m)
 
-  pub in-more-taken : {x : A} (i j : ℕ) (l : List A) → i ≤ j → x ∈ take i l → x ∈ take j l
-  in-more-taken zero j l le m = absurd (in-none m)
-  in-more-taken (suc i) j [] le m = absurd (in-none m)
-  in-more-taken (suc i) zero (y ∷ l) le m = absurd (omega arith)
-  in-more-taken (suc i) (suc j) (y ∷ l) le (here e) = here e
-  in-more-taken (suc i) (suc j) (y ∷ l) le (there m) = there (in-more-taken i j l (omega arith) m)
+  pub in_more_taken : {x : A} (i j : ℕ) (l : List A) → i ≤ j → x ∈ take i l → x ∈ take j l
+  in_more_taken zero j l le m = absurd (in_none m)
+  in_more_taken (suc i) j [] le m = absurd (in_none m)
+  in_more_taken (suc i) zero (y ∷ l) le m = absurd (omega arith)
+  in_more_taken (suc i) (suc j) (y ∷ l) le (here e) = here e
+  in_more_taken (suc i) (suc j) (y ∷ l) le (there m) = there (in_more_taken i j l (omega arith) m)
 
   -- Each: of one element more
   pub each_more : {P : A → Type 0} {x : A} {l : List A} → P x → Each P l → Each P (x ∷ l)
@@ -81,9 +81,9 @@ module _ {A : Type 0} where
   each_more p f y (there m) = f y m
 
   -- of two lists joined
-  pub each-joined : {P : A → Type 0} (a : List A) {b : List A} → Each P a → Each P b → Each P (a ++ b)
-  each-joined [] f g = g
-  each-joined (x ∷ a) f g = each_more (f x (here refl)) (each-joined a (λ y m. f y (there m)) g)
+  pub each_joined : {P : A → Type 0} (a : List A) {b : List A} → Each P a → Each P b → Each P (a ++ b)
+  each_joined [] f g = g
+  each_joined (x ∷ a) f g = each_more (f x (here refl)) (each_joined a (λ y m. f y (there m)) g)
 
   -- any: the test holds of an element of the list
   pub record Some (test : A → Bool) (l : List A) : Type 0 where
@@ -100,19 +100,19 @@ module _ {A : Type 0} where
       at rec (inl u) = record { element = x; listed = here refl; passes = u }
       at rec (inr u) = let r = rec u in record { element = r.element; listed = there r.listed; passes = r.passes }
 
-  pub some-any : (test : A → Bool) (l : List A) (x : A) → x ∈ l → T (test x) → T (any test l)
+  pub some_any : (test : A → Bool) (l : List A) (x : A) → x ∈ l → T (test x) → T (any test l)
   unfolding any
-  some-any test [] x m t = absurd (in-none m)
-  some-any test (y ∷ l) x m t = at (λ h. some-any test l x h t) (in-cases m)
+  some_any test [] x m t = absurd (in_none m)
+  some_any test (y ∷ l) x m t = at (λ h. some_any test l x h t) (in_cases m)
     where
       at : (x ∈ l → T (any test l)) → (x ≡ y) ⊎ x ∈ l → T (test y or any test l)
       at rec (inl e) = or_left _ _ (rw e at t)
       at rec (inr h) = or_right _ _ (rec h)
 
-  pub all-each : (test : A → Bool) (l : List A) → T (all test l) → Each (λ x. T (test x)) l
+  pub all_each : (test : A → Bool) (l : List A) → T (all test l) → Each (λ x. T (test x)) l
   unfolding all
-  all-each test [] t = λ x m. absurd (in-none m)
-  all-each test (y ∷ l) t = each_more (and_left _ _ t) (all-each test l (and_right _ _ t))
+  all_each test [] t = λ x m. absurd (in_none m)
+  all_each test (y ∷ l) t = each_more (and_left _ _ t) (all_each test l (and_right _ _ t))
 
   pub each_all : (test : A → Bool) (l : List A) → Each (λ x. T (test x)) l → T (all test l)
   unfolding all
@@ -125,10 +125,10 @@ module _ {A : Type 0} where
     pub listed : element ∈ l
     pub fails : T (test element) → ⊥
 
-  pub all-or-one : (test : A → Bool) (l : List A) → T (all test l) ⊎ Fails test l
+  pub all_or_one : (test : A → Bool) (l : List A) → T (all test l) ⊎ Fails test l
   unfolding all
-  all-or-one test [] = inl tt
-  all-or-one test (y ∷ l) = at (decide (test y)) (all-or-one test l)
+  all_or_one test [] = inl tt
+  all_or_one test (y ∷ l) = at (decide (test y)) (all_or_one test l)
     where
       at : T (test y) ⊎ (T (test y) → ⊥) → T (all test l) ⊎ Fails test l → T (test y and all test l) ⊎ Fails test (y ∷ l)
       at (inl t) (inl r) = inl (and_both _ _ t r)
@@ -140,26 +140,26 @@ module _ {A : Type 0} where
   unfolding any ◌or◌
   any_append test [] b = refl
   any_append test (x ∷ a) b =
-      ap (λ (later : Bool). test x or later) (any_append test a b) ∙ or-joined (test x) (any test a) (any test b)
+      ap (λ (later : Bool). test x or later) (any_append test a b) ∙ or_joined (test x) (any test a) (any test b)
 
   -- keep: exactly the elements for which the test holds
-  pub keep-in : (test : A → Bool) (l : List A) {x : A} → x ∈ keep test l → x ∈ l × T (test x)
+  pub keep_in : (test : A → Bool) (l : List A) {x : A} → x ∈ keep test l → x ∈ l × T (test x)
   unfolding keep choose
-  keep-in test [] m = absurd (in-none m)
-  keep-in test (y ∷ l) {x} m = at (λ h. keep-in test l h) (test y) refl m
+  keep_in test [] m = absurd (in_none m)
+  keep_in test (y ∷ l) {x} m = at (λ h. keep_in test l h) (test y) refl m
     where
       at : (x ∈ keep test l → x ∈ l × T (test x)) → (b : Bool) → test y ≡ b → x ∈ choose b (y ∷ keep test l) (keep test l) → x ∈ (y ∷ l) × T (test x)
-      at rec true e h = pick (in-cases h)
+      at rec true e h = pick (in_cases h)
         where
           pick : (x ≡ y) ⊎ x ∈ keep test l → x ∈ (y ∷ l) × T (test x)
           pick (inl q) = (here q, rw q (holds e))
           pick (inr k) = let r = rec k in (there r.0, r.1)
       at rec false e h = let r = rec h in (there r.0, r.1)
 
-  pub in-keep : (test : A → Bool) (l : List A) {x : A} → x ∈ l → T (test x) → x ∈ keep test l
+  pub in_keep : (test : A → Bool) (l : List A) {x : A} → x ∈ l → T (test x) → x ∈ keep test l
   unfolding keep choose
-  in-keep test [] m t = absurd (in-none m)
-  in-keep test (y ∷ l) {x} m t = at (λ h. in-keep test l h t) (test y) refl (in-cases m)
+  in_keep test [] m t = absurd (in_none m)
+  in_keep test (y ∷ l) {x} m t = at (λ h. in_keep test l h t) (test y) refl (in_cases m)
     where
       at : (x ∈ l → x ∈ keep test l) → (b : Bool) → test y ≡ b → (x ≡ y) ⊎ x ∈ l → x ∈ choose b (y ∷ keep test l) (keep test l)
       at rec true e (inl q) = here q
@@ -167,10 +167,10 @@ module _ {A : Type 0} where
       at rec false e (inl q) = absurd (fails e (rw q at t))
       at rec false e (inr h) = rec h
 
-  pub keep-length : (test : A → Bool) (l : List A) → length (keep test l) ≤ length l
+  pub keep_length : (test : A → Bool) (l : List A) → length (keep test l) ≤ length l
   unfolding keep choose
-  keep-length test [] = omega arith
-  keep-length test (y ∷ l) = at (test y) (keep-length test l)
+  keep_length test [] = omega arith
+  keep_length test (y ∷ l) = at (test y) (keep_length test l)
     where
       at : (b : Bool) → length (keep test l) ≤ length l → length (choose b (y ∷ keep test l) (keep test l)) ≤ length (y ∷ l)
       at true h = omega arith
@@ -187,15 +187,15 @@ module _ {A : Type 0} where
       at false e = e
 
   -- first_of: the answer is the first that has the test, or none has it
-  pub first-of-some : (test : A → Bool) (l : List A) {x : A} → first_of test l ≡ some x → IsFirst test l x
+  pub first_of_some : (test : A → Bool) (l : List A) {x : A} → first_of test l ≡ some x → IsFirst test l x
   unfolding first_of choose
-  first-of-some test [] e = let z : ◌≡◌ {A = ℕ} 0 1 = cc in absurd (omega arith)
-  first-of-some test (y ∷ l) {x} e = at (λ q. first-of-some test l q) (test y) refl e
+  first_of_some test [] e = let z : ◌≡◌ {A = ℕ} 0 1 = cc in absurd (omega arith)
+  first_of_some test (y ∷ l) {x} e = at (λ q. first_of_some test l q) (test y) refl e
     where
       at : (first_of test l ≡ some x → IsFirst test l x) → (b : Bool) → test y ≡ b → choose b (some y) (first_of test l) ≡ some x → IsFirst test (y ∷ l) x
       at rec true q e' =
           let p : y ≡ x = cc in
-          record { before = []; after = l; stands = ap (λ (z : A). z ∷ l) p; passes = rw (← p) (holds q); none_before = λ z m. absurd (in-none m) }
+          record { before = []; after = l; stands = ap (λ (z : A). z ∷ l) p; passes = rw (← p) (holds q); none_before = λ z m. absurd (in_none m) }
       at rec false q e' =
           let r = rec e' in
           record {
@@ -206,26 +206,26 @@ module _ {A : Type 0} where
             none_before = each_more (fails q) r.none_before;
           }
 
-  pub first-of-none : (test : A → Bool) (l : List A) → first_of test l ≡ none → Each (λ x. T (test x) → ⊥) l
+  pub first_of_none : (test : A → Bool) (l : List A) → first_of test l ≡ none → Each (λ x. T (test x) → ⊥) l
   unfolding first_of choose
-  first-of-none test [] e x m t = in-none m
-  first-of-none test (y ∷ l) e x m t = at (λ q h. first-of-none test l q x h t) (test y) refl e (in-cases m)
+  first_of_none test [] e x m t = in_none m
+  first_of_none test (y ∷ l) e x m t = at (λ q h. first_of_none test l q x h t) (test y) refl e (in_cases m)
     where
       at : (first_of test l ≡ none → x ∈ l → ⊥) → (b : Bool) → test y ≡ b → choose b (some y) (first_of test l) ≡ none → (x ≡ y) ⊎ x ∈ l → ⊥
       at rec true q e' c = let z : ◌≡◌ {A = ℕ} 0 1 = cc in omega arith
       at rec false q e' (inl p) = fails q (rw p at t)
       at rec false q e' (inr h) = rec e' h
 
-  pub first-in : {test : A → Bool} {l : List A} {x : A} → IsFirst test l x → x ∈ l
-  first-in {test} {l} {x} first = subst (λ (whole : List A). x ∈ whole) (sym first.stands) (in_right first.before (here refl))
+  pub first_in : {test : A → Bool} {l : List A} {x : A} → IsFirst test l x → x ∈ l
+  first_in {test} {l} {x} first = subst (λ (whole : List A). x ∈ whole) (sym first.stands) (in_right first.before (here refl))
 
 -- firstFrom: none of the numbers has the test, or the answer is one that has it
-pub first-from-none : (test : ℕ → Bool) (count start : ℕ) → firstFrom test count start ≡ none → (s : ℕ) → start ≤ s → s < start + count → T (test s) → ⊥
-unfolding firstFrom choose
-first-from-none test zero start e s l h t = omega arith
-first-from-none test (suc count) start e s l h t = at (λ q k. first-from-none test count (suc start) q s k (omega arith) t) (test start) refl e
+pub first_from_none : (test : ℕ → Bool) (count start : ℕ) → first_from test count start ≡ none → (s : ℕ) → start ≤ s → s < start + count → T (test s) → ⊥
+unfolding first_from choose
+first_from_none test zero start e s l h t = omega arith
+first_from_none test (suc count) start e s l h t = at (λ q k. first_from_none test count (suc start) q s k (omega arith) t) (test start) refl e
   where
-    at : (firstFrom test count (suc start) ≡ none → suc start ≤ s → ⊥) → (b : Bool) → test start ≡ b → choose b (some start) (firstFrom test count (suc start)) ≡ none → ⊥
+    at : (first_from test count (suc start) ≡ none → suc start ≤ s → ⊥) → (b : Bool) → test start ≡ b → choose b (some start) (first_from test count (suc start)) ≡ none → ⊥
     at rec true q e' = let z : ◌≡◌ {A = ℕ} 0 1 = cc in omega arith
     at rec false q e' = near (ℕ_discrete start s)
       where
@@ -233,24 +233,24 @@ first-from-none test (suc count) start e s l h t = at (λ q k. first-from-none t
         near (yes p) = fails q (rw p t)
         near (no p) = rec e' (omega arith)
 
-pub first-from-some : (test : ℕ → Bool) (count start : ℕ) {s : ℕ} → firstFrom test count start ≡ some s → (start ≤ s) × (s < start + count) × T (test s)
-unfolding firstFrom choose
-first-from-some test zero start e = let z : ◌≡◌ {A = ℕ} 0 1 = cc in absurd (omega arith)
-first-from-some test (suc count) start {s} e = at (λ q. first-from-some test count (suc start) q) (test start) refl e
+pub first_from_some : (test : ℕ → Bool) (count start : ℕ) {s : ℕ} → first_from test count start ≡ some s → (start ≤ s) × (s < start + count) × T (test s)
+unfolding first_from choose
+first_from_some test zero start e = let z : ◌≡◌ {A = ℕ} 0 1 = cc in absurd (omega arith)
+first_from_some test (suc count) start {s} e = at (λ q. first_from_some test count (suc start) q) (test start) refl e
   where
-    at : (firstFrom test count (suc start) ≡ some s → (suc start ≤ s) × (s < suc start + count) × T (test s)) → (b : Bool) → test start ≡ b
-        → choose b (some start) (firstFrom test count (suc start)) ≡ some s → (start ≤ s) × (s < start + suc count) × T (test s)
+    at : (first_from test count (suc start) ≡ some s → (suc start ≤ s) × (s < suc start + count) × T (test s)) → (b : Bool) → test start ≡ b
+        → choose b (some start) (first_from test count (suc start)) ≡ some s → (start ≤ s) × (s < start + suc count) × T (test s)
     at rec true q e' = let p : start ≡ s = cc in (omega arith, omega arith, rw (← p) (holds q))
     at rec false q e' = let r = rec e' in (omega arith, omega arith, r.2)
 
 -- the answer is the first that has it
-pub first-from-before : (test : ℕ → Bool) (count start : ℕ) {s : ℕ} → firstFrom test count start ≡ some s → (p : ℕ) → start ≤ p → p < s → T (test p) → ⊥
-unfolding firstFrom choose
-first-from-before test zero start e p l h t = let z : ◌≡◌ {A = ℕ} 0 1 = cc in omega arith
-first-from-before test (suc count) start {s} e p l h t = at (λ q k. first-from-before test count (suc start) q p k h t) (test start) refl e
+pub first_from_before : (test : ℕ → Bool) (count start : ℕ) {s : ℕ} → first_from test count start ≡ some s → (p : ℕ) → start ≤ p → p < s → T (test p) → ⊥
+unfolding first_from choose
+first_from_before test zero start e p l h t = let z : ◌≡◌ {A = ℕ} 0 1 = cc in omega arith
+first_from_before test (suc count) start {s} e p l h t = at (λ q k. first_from_before test count (suc start) q p k h t) (test start) refl e
   where
-    at : (firstFrom test count (suc start) ≡ some s → suc start ≤ p → ⊥) → (b : Bool) → test start ≡ b
-        → choose b (some start) (firstFrom test count (suc start)) ≡ some s → ⊥
+    at : (first_from test count (suc start) ≡ some s → suc start ≤ p → ⊥) → (b : Bool) → test start ≡ b
+        → choose b (some start) (first_from test count (suc start)) ≡ some s → ⊥
     at rec true q e' = let r : start ≡ s = cc in omega arith
     at rec false q e' = near (ℕ_discrete start p)
       where
@@ -259,15 +259,15 @@ first-from-before test (suc count) start {s} e p l h t = at (λ q k. first-from-
         near (no r) = rec e' (omega arith)
 
 -- and the first that has it is the answer
-pub first-from-least : (test : ℕ → Bool) (count start s : ℕ) → start ≤ s → s < start + count → T (test s)
-    → ((p : ℕ) → start ≤ p → p < s → T (test p) → ⊥) → firstFrom test count start ≡ some s
-unfolding firstFrom choose
-first-from-least test zero start s l h t f = absurd (omega arith)
-first-from-least test (suc count) start s l h t f =
-    at (λ k. first-from-least test count (suc start) s k (omega arith) t (λ p m. f p (omega arith))) (test start) refl
+pub first_from_least : (test : ℕ → Bool) (count start s : ℕ) → start ≤ s → s < start + count → T (test s)
+    → ((p : ℕ) → start ≤ p → p < s → T (test p) → ⊥) → first_from test count start ≡ some s
+unfolding first_from choose
+first_from_least test zero start s l h t f = absurd (omega arith)
+first_from_least test (suc count) start s l h t f =
+    at (λ k. first_from_least test count (suc start) s k (omega arith) t (λ p m. f p (omega arith))) (test start) refl
   where
-    at : (suc start ≤ s → firstFrom test count (suc start) ≡ some s) → (b : Bool) → test start ≡ b
-        → choose b (some start) (firstFrom test count (suc start)) ≡ some s
+    at : (suc start ≤ s → first_from test count (suc start) ≡ some s) → (b : Bool) → test start ≡ b
+        → choose b (some start) (first_from test count (suc start)) ≡ some s
     at rec true q = near (ℕ_discrete start s)
       where
         near : Dec (start ≡ s) → some start ≡ some s
@@ -275,81 +275,81 @@ first-from-least test (suc count) start s l h t f =
         near (no n) = absurd (f start (omega arith) (omega arith) (holds q))
     at rec false q = near (ℕ_discrete start s)
       where
-        near : Dec (start ≡ s) → firstFrom test count (suc start) ≡ some s
+        near : Dec (start ≡ s) → first_from test count (suc start) ≡ some s
         near (yes e) = absurd (fails q (rw e t))
         near (no n) = rec (omega arith)
 
 -- s is the least number for which the test holds, or `bound` where it holds of none below
 pub record LeastOr (test : ℕ → Bool) (bound s : ℕ) : Type 0 where
   pub within : s ≤ bound
-  pub not-before : (p : ℕ) → p < s → T (test p) → ⊥
-  pub holds-or : T (test s) ⊎ (s ≡ bound)
+  pub not_before : (p : ℕ) → p < s → T (test p) → ⊥
+  pub holds_or : T (test s) ⊎ (s ≡ bound)
 
-pub or-else-least : (test : ℕ → Bool) (bound : ℕ) → LeastOr test bound (or_else (firstFrom test bound 0) bound)
+pub or_else_least : (test : ℕ → Bool) (bound : ℕ) → LeastOr test bound (or_else (first_from test bound 0) bound)
 unfolding or_else
-or-else-least test bound = at (firstFrom test bound 0) refl
+or_else_least test bound = at (first_from test bound 0) refl
   where
-    at : (found : Option ℕ) → firstFrom test bound 0 ≡ found → LeastOr test bound (or_else found bound)
+    at : (found : Option ℕ) → first_from test bound 0 ≡ found → LeastOr test bound (or_else found bound)
     at none e =
-        record { within = omega arith; not-before = λ p l. first-from-none test bound 0 e p (omega arith) (omega arith); holds-or = inr refl }
+        record { within = omega arith; not_before = λ p l. first_from_none test bound 0 e p (omega arith) (omega arith); holds_or = inr refl }
     at (some s) e =
-        let there = first-from-some test bound 0 e in
-        record { within = omega (arith, there.1); not-before = λ p l. first-from-before test bound 0 e p (omega arith) l; holds-or = inl there.2 }
+        let there = first_from_some test bound 0 e in
+        record { within = omega (arith, there.1); not_before = λ p l. first_from_before test bound 0 e p (omega arith) l; holds_or = inl there.2 }
 
 -- there is one such number
-pub least-one : (test : ℕ → Bool) (bound s other : ℕ) → LeastOr test bound s → LeastOr test bound other → s ≡ other
-least-one test bound s other a b = omega (arith, not-less a b, not-less b a)
+pub least_one : (test : ℕ → Bool) (bound s other : ℕ) → LeastOr test bound s → LeastOr test bound other → s ≡ other
+least_one test bound s other a b = omega (arith, not_less a b, not_less b a)
   where
-    not-less : {x y : ℕ} → LeastOr test bound x → LeastOr test bound y → x < y → ⊥
-    not-less {x} {y} a b l = near a.holds-or
+    not_less : {x y : ℕ} → LeastOr test bound x → LeastOr test bound y → x < y → ⊥
+    not_less {x} {y} a b l = near a.holds_or
       where
         near : T (test x) ⊎ (x ≡ bound) → ⊥
-        near (inl t) = b.not-before x l t
+        near (inl t) = b.not_before x l t
         near (inr e) = omega (arith, b.within)
 
 -- eachFrom: the test holds of each of the numbers
-pub each-from-at : (test : ℕ → Bool) (count start : ℕ) → T (eachFrom test count start) → (s : ℕ) → start ≤ s → s < start + count → T (test s)
-unfolding eachFrom
-each-from-at test zero start t s l h = absurd (omega arith)
-each-from-at test (suc count) start t s l h = near (λ k. each-from-at test count (suc start) (and_right _ _ t) s k (omega arith)) (ℕ_discrete start s)
+pub each_from_at : (test : ℕ → Bool) (count start : ℕ) → T (each_from test count start) → (s : ℕ) → start ≤ s → s < start + count → T (test s)
+unfolding each_from
+each_from_at test zero start t s l h = absurd (omega arith)
+each_from_at test (suc count) start t s l h = near (λ k. each_from_at test count (suc start) (and_right _ _ t) s k (omega arith)) (ℕ_discrete start s)
   where
     near : (suc start ≤ s → T (test s)) → Dec (start ≡ s) → T (test s)
     near rec (yes p) = rw (← p) (and_left _ _ t)
     near rec (no p) = rec (omega arith)
 
-pub at-each-from : (test : ℕ → Bool) (count start : ℕ) → ((s : ℕ) → start ≤ s → s < start + count → T (test s)) → T (eachFrom test count start)
-unfolding eachFrom
-at-each-from test zero start f = tt
-at-each-from test (suc count) start f =
-    and_both _ _ (f start (omega arith) (omega arith)) (at-each-from test count (suc start) (λ s l h. f s (omega arith) (omega arith)))
+pub at_each_from : (test : ℕ → Bool) (count start : ℕ) → ((s : ℕ) → start ≤ s → s < start + count → T (test s)) → T (each_from test count start)
+unfolding each_from
+at_each_from test zero start f = tt
+at_each_from test (suc count) start f =
+    and_both _ _ (f start (omega arith) (omega arith)) (at_each_from test count (suc start) (λ s l h. f s (omega arith) (omega arith)))
 
 -- a loop over the numbers below a bound, by what remains of it at number s: the test fails there, it holds there, or nothing remains
 module _ (test : ℕ → Bool) (bound s : ℕ) where
-  pub each-from-fails : s < bound → test s ≡ false → eachFrom test (bound - s) s ≡ false
-  unfolding eachFrom ◌and◌
-  each-from-fails l e = let c : bound - s ≡ suc (bound - (s + 1)) = omega arith in rw (c, e)
+  pub each_from_fails : s < bound → test s ≡ false → each_from test (bound - s) s ≡ false
+  unfolding each_from ◌and◌
+  each_from_fails l e = let c : bound - s ≡ suc (bound - (s + 1)) = omega arith in rw (c, e)
 
-  pub each-from-holds : s < bound → test s ≡ true → eachFrom test (bound - s) s ≡ eachFrom test (bound - (s + 1)) (s + 1)
-  unfolding eachFrom ◌and◌
-  each-from-holds l e = let c : bound - s ≡ suc (bound - (s + 1)) = omega arith in rw (c, e, add-one)
+  pub each_from_holds : s < bound → test s ≡ true → each_from test (bound - s) s ≡ each_from test (bound - (s + 1)) (s + 1)
+  unfolding each_from ◌and◌
+  each_from_holds l e = let c : bound - s ≡ suc (bound - (s + 1)) = omega arith in rw (c, e, add-one)
 
-  pub each-from-ends : bound ≤ s → eachFrom test (bound - s) s ≡ true
-  unfolding eachFrom
-  each-from-ends l = let c : bound - s ≡ 0 = omega arith in rw c
+  pub each_from_ends : bound ≤ s → each_from test (bound - s) s ≡ true
+  unfolding each_from
+  each_from_ends l = let c : bound - s ≡ 0 = omega arith in rw c
 
 -- a search among the numbers below a bound, by what remains of it at number s: the test holds there, it fails there, or nothing remains
 module _ (test : ℕ → Bool) (bound s : ℕ) where
-  pub first-from-here : s < bound → test s ≡ true → firstFrom test (bound - s) s ≡ some s
-  unfolding firstFrom choose
-  first-from-here l e = let c : bound - s ≡ suc (bound - (s + 1)) = omega arith in rw (c, e)
+  pub first_from_here : s < bound → test s ≡ true → first_from test (bound - s) s ≡ some s
+  unfolding first_from choose
+  first_from_here l e = let c : bound - s ≡ suc (bound - (s + 1)) = omega arith in rw (c, e)
 
-  pub first-from-later : s < bound → test s ≡ false → firstFrom test (bound - s) s ≡ firstFrom test (bound - (s + 1)) (s + 1)
-  unfolding firstFrom choose
-  first-from-later l e = let c : bound - s ≡ suc (bound - (s + 1)) = omega arith in rw (c, e, add-one)
+  pub first_from_later : s < bound → test s ≡ false → first_from test (bound - s) s ≡ first_from test (bound - (s + 1)) (s + 1)
+  unfolding first_from choose
+  first_from_later l e = let c : bound - s ≡ suc (bound - (s + 1)) = omega arith in rw (c, e, add-one)
 
-  pub first-from-nowhere : bound ≤ s → firstFrom test (bound - s) s ≡ none
-  unfolding firstFrom
-  first-from-nowhere l = let c : bound - s ≡ 0 = omega arith in rw c
+  pub first_from_nowhere : bound ≤ s → first_from test (bound - s) s ≡ none
+  unfolding first_from
+  first_from_nowhere l = let c : bound - s ≡ 0 = omega arith in rw c
 
 -- an element by its place
 pub at_in : (l : List ℕ) (i : ℕ) → i < length l → get_or l i 0 ∈ l
@@ -358,19 +358,19 @@ at_in (x ∷ l) zero h = here refl
 at_in (x ∷ l) (suc i) h = there (at_in l i (omega arith))
 
 -- what remains of a list from a place on
-pub drop-first : (l : List ℕ) (i : ℕ) → i < length l → drop i l ≡ get_or l i 0 ∷ drop (i + 1) l
-drop-first l i h = drop-cons l i 0 h ∙ ap (λ (k : ℕ). get_or l i 0 ∷ drop k l) (sym (add-one i))
+pub drop_first : (l : List ℕ) (i : ℕ) → i < length l → drop i l ≡ get_or l i 0 ∷ drop (i + 1) l
+drop_first l i h = drop-cons l i 0 h ∙ ap (λ (k : ℕ). get_or l i 0 ∷ drop k l) (sym (add-one i))
 
 -- a loop over a list, by what remains of it at place i: the test fails there, it holds there, or nothing remains
 module _ (test : ℕ → Bool) (l : List ℕ) (i : ℕ) where
-  pub all-fails : i < length l → test (get_or l i 0) ≡ false → all test (drop i l) ≡ false
+  pub all_fails : i < length l → test (get_or l i 0) ≡ false → all test (drop i l) ≡ false
   unfolding all ◌and◌
-  all-fails h e = rw (drop-first l i h, e)
+  all_fails h e = rw (drop_first l i h, e)
 
-  pub all-holds : i < length l → test (get_or l i 0) ≡ true → all test (drop i l) ≡ all test (drop (i + 1) l)
+  pub all_holds : i < length l → test (get_or l i 0) ≡ true → all test (drop i l) ≡ all test (drop (i + 1) l)
   unfolding all ◌and◌
-  all-holds h e = rw (drop-first l i h, e)
+  all_holds h e = rw (drop_first l i h, e)
 
-  pub all-ends : length l ≤ i → all test (drop i l) ≡ true
+  pub all_ends : length l ≤ i → all test (drop i l) ≡ true
   unfolding all
-  all-ends h = rw (drop_of_length-le l h)
+  all_ends h = rw (drop_of_length-le l h)

@@ -45,10 +45,10 @@ unfolding ◌and◌
 and_both true b s t = t
 and_both false b s t = s
 
-pub and-fails : (a b : Bool) → b ≡ false → (a and b) ≡ false
+pub and_fails : (a b : Bool) → b ≡ false → (a and b) ≡ false
 unfolding ◌and◌
-and-fails true b e = e
-and-fails false b e = refl
+and_fails true b e = e
+and_fails false b e = refl
 
 pub or_cases : (a b : Bool) → T (a or b) → T a ⊎ T b
 unfolding ◌or◌
@@ -65,95 +65,95 @@ unfolding ◌or◌
 or_right true b t = tt
 or_right false b t = t
 
-pub or-joined : (a b c : Bool) → a or b or c ≡ (a or b) or c
+pub or_joined : (a b c : Bool) → a or b or c ≡ (a or b) or c
 unfolding ◌or◌
-or-joined true b c = refl
-or-joined false b c = refl
+or_joined true b c = refl
+or_joined false b c = refl
 
-pub or-neither : (a b : Bool) → a or b ≡ false → (a ≡ false) × (b ≡ false)
+pub or_neither : (a b : Bool) → a or b ≡ false → (a ≡ false) × (b ≡ false)
 unfolding ◌or◌
-or-neither true b e = absurd (fails e tt)
-or-neither false b e = (refl, e)
+or_neither true b e = absurd (fails e tt)
+or_neither false b e = (refl, e)
 
-pub or-none : (b : Bool) → b or false ≡ b
+pub or_none : (b : Bool) → b or false ≡ b
 unfolding ◌or◌
-or-none true = refl
-or-none false = refl
+or_none true = refl
+or_none false = refl
 
-pub neg-fails : (b : Bool) → T (neg b) → T b → ⊥
+pub neg_fails : (b : Bool) → T (neg b) → T b → ⊥
 unfolding neg
-neg-fails true s t = s
-neg-fails false s t = t
+neg_fails true s t = s
+neg_fails false s t = t
 
-pub fails-neg : (b : Bool) → (T b → ⊥) → T (neg b)
+pub fails_neg : (b : Bool) → (T b → ⊥) → T (neg b)
 unfolding neg
-fails-neg true f = f tt
-fails-neg false f = tt
+fails_neg true f = f tt
+fails_neg false f = tt
 
-pub neg-neg : (b : Bool) → (T (neg b) → ⊥) → T b
+pub neg_neg : (b : Bool) → (T (neg b) → ⊥) → T b
 unfolding neg
-neg-neg true f = tt
-neg-neg false f = f tt
+neg_neg true f = tt
+neg_neg false f = f tt
 
-pub neg-is-not : (b : Bool) → not b ≡ neg b
+pub neg_is_not : (b : Bool) → not b ≡ neg b
 unfolding neg
-neg-is-not true = refl
-neg-is-not false = refl
+neg_is_not true = refl
+neg_is_not false = refl
 
 -- a joined test's value, by those of its parts; r is what a call answered
-pub or-first : (a b : Bool) → a ≡ true → a or b ≡ true
+pub or_first : (a b : Bool) → a ≡ true → a or b ≡ true
 unfolding ◌or◌
-or-first a b e = rw e
+or_first a b e = rw e
 
-pub or-second : (a b : Bool) → b ≡ true → a or b ≡ true
+pub or_second : (a b : Bool) → b ≡ true → a or b ≡ true
 unfolding ◌or◌
-or-second true b e = refl
-or-second false b e = e
+or_second true b e = refl
+or_second false b e = e
 
-pub or-rest : (a b value : Bool) → a ≡ false → b ≡ value → a or b ≡ value
+pub or_rest : (a b value : Bool) → a ≡ false → b ≡ value → a or b ≡ value
 unfolding ◌or◌
-or-rest a b value e q = rw e q
+or_rest a b value e q = rw e q
 
-pub neg-true : (b : Bool) → b ≡ false → neg b ≡ true
+pub neg_true : (b : Bool) → b ≡ false → neg b ≡ true
 unfolding neg
-neg-true b e = rw e
+neg_true b e = rw e
 
-pub neg-false : (b : Bool) → b ≡ true → neg b ≡ false
+pub neg_false : (b : Bool) → b ≡ true → neg b ≡ false
 unfolding neg
-neg-false b e = rw e
+neg_false b e = rw e
 
-pub neg-called : (b r value : Bool) → r ≡ b → not r ≡ value → neg b ≡ value
-neg-called b r value e q = rw (← e) (sym (neg-is-not r) ∙ q)
+pub neg_called : (b r value : Bool) → r ≡ b → not r ≡ value → neg b ≡ value
+neg_called b r value e q = rw (← e) (sym (neg_is_not r) ∙ q)
 
 -- a test of numbers, joined so, from the facts
-pub ruleset tests = (or-first, or-second, or-rest, neg-called, neg-true, neg-false, eq-eqb, ne_eqb, lt-ltb, le-ltb)
+pub ruleset tests = (or_first, or_second, or_rest, neg_called, neg_true, neg_false, eq-eqb, ne_eqb, lt-ltb, le-ltb)
 
 -- the parts of a joined test that came out false
-pub or-left-failed : (a b : Bool) → a or b ≡ false → a ≡ false
-or-left-failed a b e = (or-neither a b e).0
+pub or_left_failed : (a b : Bool) → a or b ≡ false → a ≡ false
+or_left_failed a b e = (or_neither a b e).0
 
-pub or-right-failed : (a b : Bool) → a or b ≡ false → b ≡ false
-or-right-failed a b e = (or-neither a b e).1
+pub or_right_failed : (a b : Bool) → a or b ≡ false → b ≡ false
+or_right_failed a b e = (or_neither a b e).1
 
-pub neg-failed : (b : Bool) → neg b ≡ false → b ≡ true
+pub neg_failed : (b : Bool) → neg b ≡ false → b ≡ true
 unfolding neg
-neg-failed true e = refl
-neg-failed false e = sym e
+neg_failed true e = refl
+neg_failed false e = sym e
 
 -- the facts, from a test of numbers that is joined so and came out false
-pub ruleset facts = (or-left-failed, or-right-failed, neg-failed, holds, eqb-true, ltb-false)
+pub ruleset facts = (or_left_failed, or_right_failed, neg_failed, holds, eqb-true, ltb-false)
 
 -- a choice, by its test
-pub choose-true : {A : Type 0} {b : Bool} (x y : A) → b ≡ true → choose b x y ≡ x
+pub choose_true : {A : Type 0} {b : Bool} (x y : A) → b ≡ true → choose b x y ≡ x
 unfolding choose
-choose-true x y e = rw e
+choose_true x y e = rw e
 
-pub choose-false : {A : Type 0} {b : Bool} (x y : A) → b ≡ false → choose b x y ≡ y
+pub choose_false : {A : Type 0} {b : Bool} (x y : A) → b ≡ false → choose b x y ≡ y
 unfolding choose
-choose-false x y e = rw e
+choose_false x y e = rw e
 
 -- what holds of each of the two where it is chosen holds of the choice
-pub choose-either : {A : Type 0} (P : A → Type 0) (b : Bool) {x y : A} → (b ≡ true → P x) → (b ≡ false → P y) → P (choose b x y)
+pub choose_either : {A : Type 0} (P : A → Type 0) (b : Bool) {x y : A} → (b ≡ true → P x) → (b ≡ false → P y) → P (choose b x y)
 unfolding choose
-choose-either P true f g = f refl
-choose-either P false f g = g refl
+choose_either P true f g = f refl
+choose_either P false f g = g refl

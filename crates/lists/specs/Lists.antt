@@ -42,9 +42,9 @@ pub record IsFirst {A : Type 0} (test : A → Bool) (l : List A) (x : A) : Type 
   pub none_before : Each (λ y. T (test y) → ⊥) before
 
 -- of the `count` numbers from `start` on, the first for which the test holds
-unfoldable pub firstFrom : (ℕ → Bool) → ℕ → ℕ → Option ℕ
-firstFrom test zero start = none
-firstFrom test (suc count) start = let later = firstFrom test count (suc start) in choose (test start) (some start) later
+unfoldable pub first_from : (ℕ → Bool) → ℕ → ℕ → Option ℕ
+first_from test zero start = none
+first_from test (suc count) start = let later = first_from test count (suc start) in choose (test start) (some start) later
 
 -- the number that was found, or the other where there is none
 unfoldable pub or_else : Option ℕ → ℕ → ℕ
@@ -52,6 +52,6 @@ or_else none other = other
 or_else (some found) other = found
 
 -- the test holds of each of the `count` numbers from `start` on
-unfoldable pub eachFrom : (ℕ → Bool) → ℕ → ℕ → Bool
-eachFrom test zero start = true
-eachFrom test (suc count) start = let later = eachFrom test count (suc start) in test start and later
+unfoldable pub each_from : (ℕ → Bool) → ℕ → ℕ → Bool
+each_from test zero start = true
+each_from test (suc count) start = let later = each_from test count (suc start) in test start and later

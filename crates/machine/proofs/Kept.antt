@@ -1,69 +1,69 @@
 -- Every promise is kept. Assumes nothing.
 use native.Mathlib.Omega.{arith}
 use Rattle.machine.specs.Promises.{Promises}
-use Rattle.masks.proofs.Laws.{member-means, subset-means, within-means, union-members, without-members, single-members, full-members}
-use Rattle.automata.proofs.BackwardSets.{backward-members}
-use Rattle.automata.proofs.AcceptedWords.{empty-steps}
-use Rattle.automata.proofs.Reading.{reading-refused, reading-refused-values, reading-valid, reading-valid-values}
-use Rattle.writing.proofs.Decimals.{digits-one, digits_decimal}
-use Rattle.machine.proofs.WordTests.{refuses-image, refuses-symbol, says-yes, says-no, same_answer}
-use Rattle.machine.proofs.RunsKept.{odd-rooms, oversize-rooms, run-promises, editions-agree, block-unpends, blocked-passes, working}
-use Rattle.machine.proofs.StepsKept.{begin-promises, step-promises, steps-promises, run-is-steps, runs-agree}
-use Rattle.machine.proofs.Reasons.{why-tells}
-use Rattle.machine.proofs.Greedy.{picks-most}
-use Rattle.machine.proofs.Counted.{counts-once}
-use Rattle.machine.proofs.Hitting.{growth-sound, hits}
-use Rattle.machine.proofs.LentTables.{blockers-length}
-use Rattle.machine.proofs.Images.{accepted-exactly, walk-tells}
-use Rattle.machine.proofs.Blocks.{block-makes}
-use Rattle.machine.proofs.Printing.{prints-kept}
-use Rattle.machine.proofs.ProgramLines.{lines-kept}
+use Rattle.masks.proofs.Laws.{member_means, subset_means, within_means, union_members, without_members, single_members, full_members}
+use Rattle.automata.proofs.BackwardSets.{backward_members}
+use Rattle.automata.proofs.AcceptedWords.{empty_steps}
+use Rattle.automata.proofs.Reading.{reading_refused, reading_refused_values, reading_valid, reading_valid_values}
+use Rattle.writing.proofs.Decimals.{digits_one, digits_decimal}
+use Rattle.machine.proofs.WordTests.{refuses_image, refuses_symbol, says_yes, says_no, same_answer}
+use Rattle.machine.proofs.RunsKept.{odd_rooms_lem, oversize_rooms, run_promises, editions_agree, block_unpends, blocked_passes, working}
+use Rattle.machine.proofs.StepsKept.{begin_promises, step_promises, steps_promises, run_is_steps, runs_agree}
+use Rattle.machine.proofs.Reasons.{why_tells}
+use Rattle.machine.proofs.Greedy.{picks_most}
+use Rattle.machine.proofs.Counted.{counts_once}
+use Rattle.machine.proofs.Hitting.{growth_sound, hits}
+use Rattle.machine.proofs.LentTables.{blockers_length}
+use Rattle.machine.proofs.Images.{accepted_exactly, walk_tells}
+use Rattle.machine.proofs.Blocks.{block_makes}
+use Rattle.machine.proofs.Printing.{prints_kept}
+use Rattle.machine.proofs.ProgramLines.{lines_kept}
 
 pub kept : Promises
 kept = record {
   masks = record {
-    member-means = member-means;
-    subset-means = subset-means;
-    within-means = within-means;
-    union-means = union-members;
-    without-means = without-members;
-    single-means = single-members;
-    full-means = full-members;
+    member_means = member_means;
+    subset_means = subset_means;
+    within_means = within_means;
+    union_means = union_members;
+    without_means = without_members;
+    single_means = single_members;
+    full_means = full_members;
   };
-  backward-means = backward-members;
-  empty-steps = empty-steps;
-  accepted-means = accepted-exactly;
-  reader-refuses = reading-refused;
-  reader-leaves = λ image before refused. reading-refused-values image refused before;
-  reader-accepts = reading-valid;
-  reader-reads = λ image before valid. reading-valid-values image valid before;
-  word-test-refuses-image = refuses-image;
-  word-test-refuses-symbol = refuses-symbol;
-  word-test-yes = says-yes;
-  word-test-no = says-no;
-  word-test-same = same_answer;
-  odd-rooms = odd-rooms;
-  oversize = oversize-rooms;
-  runs = run-promises;
-  begins = begin-promises;
-  steps = step-promises;
-  by-steps = steps-promises;
-  run-is-steps = run-is-steps;
-  runs-agree = runs-agree;
-  editions-agree = editions-agree;
-  block-unpends = block-unpends;
-  grows-passing = λ image way table below X valid. growth-sound image valid way table below X;
-  blocked-passes = blocked-passes;
-  block-makes = block-makes;
+  backward_means = backward_members;
+  empty_steps = empty_steps;
+  accepted_means = accepted_exactly;
+  reader_refuses = reading_refused;
+  reader_leaves = λ image before refused. reading_refused_values image refused before;
+  reader_accepts = reading_valid;
+  reader_reads = λ image before valid. reading_valid_values image valid before;
+  word_test_refuses_image = refuses_image;
+  word_test_refuses_symbol = refuses_symbol;
+  word_test_yes = says_yes;
+  word_test_no = says_no;
+  word_test_same = same_answer;
+  odd_rooms = odd_rooms_lem;
+  oversize = oversize_rooms;
+  runs = run_promises;
+  begins = begin_promises;
+  steps = step_promises;
+  by_steps = steps_promises;
+  run_is_steps = run_is_steps;
+  runs_agree = runs_agree;
+  editions_agree = editions_agree;
+  block_unpends = block_unpends;
+  grows_passing = λ image way table below X valid. growth_sound image valid way table below X;
+  blocked_passes = blocked_passes;
+  block_makes = block_makes;
   working = working;
   hits = hits;
-  counts-once = counts-once;
-  picks-most = picks-most;
-  why-tells = why-tells;
-  shorter-counts = λ masks levels. blockers-length _ _ _;
-  walk-tells = walk-tells;
-  prints = prints-kept;
-  prints-lines = lines-kept;
+  counts_once = counts_once;
+  picks_most = picks_most;
+  why_tells = why_tells;
+  shorter_counts = λ masks levels. blockers_length _ _ _;
+  walk_tells = walk_tells;
+  prints = prints_kept;
+  prints_lines = lines_kept;
   decimals = digits_decimal;
-  decimal-zero = digits-one 0 (omega arith);
+  decimal_zero = digits_one 0 (omega arith);
 }

@@ -10,13 +10,13 @@ use lib.ListN.{length}
 use Rattle.lists.specs.Lists.{Each, any}
 use Rattle.masks.specs.Sets.{subset, within}
 use Rattle.machine.specs.System.{System}
-use Rattle.machine.specs.Machine.{Blocker, Configuration, Growth, passes, beginning, startAnswer, ends}
-use Rattle.machine.specs.Machine.{Outcome, nonempty, empty, stepsLack, blockersLack, wordLacks, startsFinal}
+use Rattle.machine.specs.Machine.{Blocker, Configuration, Growth, passes, beginning, start_answer, ends}
+use Rattle.machine.specs.Machine.{Outcome, nonempty, empty, steps_lack, blockers_lack, word_lacks, starts_final}
 
 -- the case taken back by the word's symbols from last to first
-unfoldable pub takenBack : System → List ℕ → ℕ → ℕ
-takenBack S [] X = X
-takenBack S (s ∷ word) X = S.backward s (takenBack S word X)
+unfoldable pub taken_back : System → List ℕ → ℕ → ℕ
+taken_back S [] X = X
+taken_back S (s ∷ word) X = S.backward s (taken_back S word X)
 
 -- every symbol of the word is one of the k
 abbrev pub Word : System → List ℕ → Type 0
@@ -24,14 +24,14 @@ Word S word = Each (λ s. s < S.symbols) word
 
 -- some final case, taken back by the word, contains I
 unfoldable pub accepts : System → List ℕ → Bool
-accepts S word = any (λ F. subset S.initial (takenBack S word F)) S.finals
+accepts S word = any (λ F. subset S.initial (taken_back S word F)) S.finals
 
 -- what the laws ask of a system
 pub record Lawful (S : System) : Type 0 where
-  pub initial-within : T (within S.states S.initial)
-  pub finals-within : Each (λ F. T (within S.states F)) S.finals
-  pub backward-within : (s X : ℕ) → s < S.symbols → T (within S.states (S.backward s X))
-  pub backward-monotone : (s X Y : ℕ) → T (subset X Y) → T (subset (S.backward s X) (S.backward s Y))
+  pub initial_within : T (within S.states S.initial)
+  pub finals_within : Each (λ F. T (within S.states F)) S.finals
+  pub backward_within : (s X : ℕ) → s < S.symbols → T (within S.states (S.backward s X))
+  pub backward_monotone : (s X Y : ℕ) → T (subset X Y) → T (subset (S.backward s X) (S.backward s Y))
 
 -- a way to grow is sound if what it makes of a case that passes the block test passes it too
 abbrev pub Sound : System → Growth → Type 0
@@ -56,19 +56,19 @@ pub record Shortest (S : System) (word : List ℕ) : Type 0 where
 abbrev pub IsVerdict : Outcome → Type 0
 IsVerdict (nonempty word) = Unit {0}
 IsVerdict empty = Unit {0}
-IsVerdict stepsLack = ⊥
-IsVerdict blockersLack = ⊥
-IsVerdict wordLacks = ⊥
-IsVerdict startsFinal = Unit {0}
+IsVerdict steps_lack = ⊥
+IsVerdict blockers_lack = ⊥
+IsVerdict word_lacks = ⊥
+IsVerdict starts_final = Unit {0}
 
 -- the run ended with a verdict, after at most `most` steps
 pub record Decided (most : ℕ) (outcome : Outcome) (left : Configuration) : Type 0 where
   pub verdict : IsVerdict outcome
-  pub in-time : left.steps ≤ most
+  pub in_time : left.steps ≤ most
 
 -- a start that is final was answered as such, in its edition, and nothing was done
 abbrev pub AnswersStart : System → ℕ → Outcome → Configuration → Type 0
-AnswersStart S edition outcome left = T (accepts S []) → ends outcome left ≡ ends (startAnswer edition) beginning
+AnswersStart S edition outcome left = T (accepts S []) → ends outcome left ≡ ends (start_answer edition) beginning
 
 -- the same words, of which the same are accepted
 pub record SameLanguage (S S' : System) : Type 0 where
@@ -77,6 +77,6 @@ pub record SameLanguage (S S' : System) : Type 0 where
 
 -- both found words, equally long, or both found that there is none, or that the start is final
 pub data Agree : Outcome → Outcome → Type 0 where
-  both-nonempty : {word word' : List ℕ} → length word ≡ length word' → Agree (nonempty word) (nonempty word')
-  both-empty : Agree empty empty
-  both-at-start : Agree startsFinal startsFinal
+  both_nonempty : {word word' : List ℕ} → length word ≡ length word' → Agree (nonempty word) (nonempty word')
+  both_empty : Agree empty empty
+  both_at_start : Agree starts_final starts_final

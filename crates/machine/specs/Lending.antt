@@ -4,7 +4,7 @@ use Rattle.std.specs.Prelude.{ℕ, List}
 use Rattle.std.specs.Borrow.{Bor}
 use denote.Triple.Both.{Both}
 use Rattle.machine.specs.Machine.{Blocker}
-use Rattle.machine.specs.Lent.{BlockerRoom, roomOf, WordRoom, wordRoomOf, Lent, unstampedRoom, blockersIn}
+use Rattle.machine.specs.Lent.{BlockerRoom, room_of, WordRoom, word_room_of, Lent, unstamped_room, blockers_in}
 
 -- a lent table, and one at the two moments of a call
 abbrev pub Table : Type 0
@@ -13,36 +13,36 @@ Table = Bor (List ℕ)
 abbrev pub Tables : Type 0
 Tables = Both Table Table
 
-abbrev pub roomNow : Table → Table → Table → BlockerRoom
-roomNow masks levels entered = roomOf masks.now levels.now entered.now
+abbrev pub room_now : Table → Table → Table → BlockerRoom
+room_now masks levels entered = room_of masks.now levels.now entered.now
 
-abbrev pub roomBefore : Tables → Tables → Tables → BlockerRoom
-roomBefore masks levels entered = roomNow masks.entry levels.entry entered.entry
+abbrev pub room_before : Tables → Tables → Tables → BlockerRoom
+room_before masks levels entered = room_now masks.entry levels.entry entered.entry
 
-abbrev pub roomAfter : Tables → Tables → Tables → BlockerRoom
-roomAfter masks levels entered = roomNow masks.exit levels.exit entered.exit
+abbrev pub room_after : Tables → Tables → Tables → BlockerRoom
+room_after masks levels entered = room_now masks.exit levels.exit entered.exit
 
 -- masks and levels, where only these are lent, and their blockers
-abbrev pub unstampedBefore : Tables → Tables → BlockerRoom
-unstampedBefore masks levels = unstampedRoom masks.entry.now levels.entry.now
+abbrev pub unstamped_before : Tables → Tables → BlockerRoom
+unstamped_before masks levels = unstamped_room masks.entry.now levels.entry.now
 
-abbrev pub blockersNow : Table → Table → List Blocker
-blockersNow masks levels = blockersIn masks.now levels.now
+abbrev pub blockers_now : Table → Table → List Blocker
+blockers_now masks levels = blockers_in masks.now levels.now
 
-abbrev pub blockersBefore : Tables → Tables → List Blocker
-blockersBefore masks levels = blockersNow masks.entry levels.entry
+abbrev pub blockers_before : Tables → Tables → List Blocker
+blockers_before masks levels = blockers_now masks.entry levels.entry
 
-abbrev pub wordNow : Table → Table → WordRoom
-wordNow cases symbols = wordRoomOf cases.now symbols.now
+abbrev pub word_now : Table → Table → WordRoom
+word_now cases symbols = word_room_of cases.now symbols.now
 
-abbrev pub wordBefore : Tables → Tables → WordRoom
-wordBefore cases symbols = wordNow cases.entry symbols.entry
+abbrev pub word_before : Tables → Tables → WordRoom
+word_before cases symbols = word_now cases.entry symbols.entry
 
-abbrev pub wordAfter : Tables → Tables → WordRoom
-wordAfter cases symbols = wordNow cases.exit symbols.exit
+abbrev pub word_after : Tables → Tables → WordRoom
+word_after cases symbols = word_now cases.exit symbols.exit
 
-abbrev pub lentBefore : Tables → Tables → Tables → Tables → Tables → Lent
-lentBefore masks levels entered cases symbols = record { room = roomBefore masks levels entered; word = wordBefore cases symbols }
+abbrev pub lent_before : Tables → Tables → Tables → Tables → Tables → Lent
+lent_before masks levels entered cases symbols = record { room = room_before masks levels entered; word = word_before cases symbols }
 
-abbrev pub lentAfter : Tables → Tables → Tables → Tables → Tables → Lent
-lentAfter masks levels entered cases symbols = record { room = roomAfter masks levels entered; word = wordAfter cases symbols }
+abbrev pub lent_after : Tables → Tables → Tables → Tables → Tables → Lent
+lent_after masks levels entered cases symbols = record { room = room_after masks levels entered; word = word_after cases symbols }

@@ -5,11 +5,11 @@ use Rattle.std.specs.Prelude.{ℕ, suc, ◌+◌, ◌-◌, ◌≤◌, ◌<◌, �
 use Rattle.lists.specs.Tests.{◌and◌}
 use Rattle.lists.specs.Lists.{◌∈◌, Each}
 use Rattle.masks.specs.Sets.{subset}
-use Rattle.automata.specs.WordTest.{oneIf}
+use Rattle.automata.specs.WordTest.{one_if}
 use Rattle.machine.specs.System.{System}
-use Rattle.machine.specs.Machine.{Blocker, Pending, Configuration, Given, Rooms, passes, step, Next, goesOn, ends, halted, advance, chain, begin}
-use Rattle.machine.specs.Machine.{Step, opens, extends, blocks, closes, answersNonempty, answersEmpty}
-use Rattle.machine.specs.Machine.{Outcome, nonempty, empty, stepsLack, blockersLack, wordLacks, startsFinal}
+use Rattle.machine.specs.Machine.{Blocker, Pending, Configuration, Given, Rooms, passes, step, Next, goes_on, ends, halted, advance, chain, begin}
+use Rattle.machine.specs.Machine.{Step, opens, extends, blocks, closes, answers_nonempty, answers_empty}
+use Rattle.machine.specs.Machine.{Outcome, nonempty, empty, steps_lack, blockers_lack, word_lacks, starts_final}
 
 -- the case is a subset of one of the blockers
 pub record Inside (table : List Blocker) (X : ℕ) : Type 0 where
@@ -42,14 +42,14 @@ pub record NoRoom (S : System) (given : Given) (c : Configuration) (Sort : Confi
 abbrev pub Lacks : System → Rooms → Given → Configuration → Outcome → Configuration → Type 0
 Lacks S rooms given c (nonempty word) left = Unit {0}
 Lacks S rooms given c empty left = Unit {0}
-Lacks S rooms given c stepsLack left = (left ≡ halted c) × (given.allowance ≤ c.steps)
-Lacks S rooms given c blockersLack left = (left ≡ halted c) × NoRoom S given c blocks (λ after. rooms.blockers < length after.table)
-Lacks S rooms given c wordLacks left = (left ≡ halted c) × NoRoom S given c opens (λ after. c.level ≡ rooms.word)
-Lacks S rooms given c startsFinal left = ⊥
+Lacks S rooms given c steps_lack left = (left ≡ halted c) × (given.allowance ≤ c.steps)
+Lacks S rooms given c blockers_lack left = (left ≡ halted c) × NoRoom S given c blocks (λ after. rooms.blockers < length after.table)
+Lacks S rooms given c word_lacks left = (left ≡ halted c) × NoRoom S given c opens (λ after. c.level ≡ rooms.word)
+Lacks S rooms given c starts_final left = ⊥
 
 -- 01's machine, begun in this edition and called so, comes to c and works on; the calls of a run are all given the same
 abbrev pub WorksIn : System → Rooms → ℕ → List Given → Configuration → Type 0
-WorksIn S rooms edition calls c = chain S rooms (begin S edition) calls ≡ goesOn c
+WorksIn S rooms edition calls c = chain S rooms (begin S edition) calls ≡ goes_on c
 
 -- The call that ended a chain of calls: those before it left the machine working in `at`, and it ended there; those after it changed nothing.
 pub record EndingCall (S : System) (rooms : Rooms) (start : Next) (calls : List Given) (outcome : Outcome) (left : Configuration) : Type 0 where
@@ -58,8 +58,8 @@ pub record EndingCall (S : System) (rooms : Rooms) (start : Next) (calls : List 
   pub later : List Given
   pub at : Configuration
   pub split : calls ≡ before ++ last ∷ later
-  pub reached : chain S rooms start before ≡ goesOn at
-  pub ended : advance S rooms last (goesOn at) ≡ ends outcome left
+  pub reached : chain S rooms start before ≡ goes_on at
+  pub ended : advance S rooms last (goes_on at) ≡ ends outcome left
 
 -- the call that ended a run: each of those before it made a step, and without a verdict this is what it lacked
 pub record EndedBy (S : System) (rooms : Rooms) (edition : ℕ) (calls : List Given) (outcome : Outcome) (left : Configuration) : Type 0 where
@@ -68,33 +68,33 @@ pub record EndedBy (S : System) (rooms : Rooms) (edition : ℕ) (calls : List Gi
   pub lacks : Lacks S rooms call.last call.at outcome left
 
 -- the step is a block
-unfoldable pub isBlock : Step → Bool
-isBlock (blocks d) = true
-isBlock (opens d) = false
-isBlock (extends d) = false
-isBlock (closes d) = false
-isBlock (answersNonempty word d) = false
-isBlock (answersEmpty d) = false
+unfoldable pub is_block : Step → Bool
+is_block (blocks d) = true
+is_block (opens d) = false
+is_block (extends d) = false
+is_block (closes d) = false
+is_block (answers_nonempty word d) = false
+is_block (answers_empty d) = false
 
 -- "hint t exists and passes" for the lowest pending case, where t blocks came before
-unfoldable pub hintPasses : System → Given → Configuration → List Pending → Bool
-hintPasses S given c [] = false
-hintPasses S given c (X ∷ rest) =
+unfoldable pub hint_passes : System → Given → Configuration → List Pending → Bool
+hint_passes S given c [] = false
+hint_passes S given c (X ∷ rest) =
     ltb c.blocks (length given.hints) and passes S c.table (c.level - suc (length rest)) X.case (get_or given.hints c.blocks 0)
 
 -- the step that a call makes is a block; and it is one that takes a hint
-unfoldable pub makesBlock : System → Given → Configuration → Bool
-makesBlock S given c = isBlock (step S given c)
+unfoldable pub makes_block : System → Given → Configuration → Bool
+makes_block S given c = is_block (step S given c)
 
-unfoldable pub takesHint : System → Given → Configuration → Bool
-takesHint S given c = makesBlock S given c and hintPasses S given c c.pending
+unfoldable pub takes_hint : System → Given → Configuration → Bool
+takes_hint S given c = makes_block S given c and hint_passes S given c c.pending
 
 -- how many calls of a chain made such a step
-unfoldable pub stepsMade : (System → Given → Configuration → Bool) → System → Rooms → Next → List Given → ℕ
-stepsMade such S rooms (goesOn c) [] = 0
-stepsMade such S rooms (ends outcome c) [] = 0
-stepsMade such S rooms (goesOn c) (given ∷ later) = oneIf (such S given c) + stepsMade such S rooms (advance S rooms given (goesOn c)) later
-stepsMade such S rooms (ends outcome c) (given ∷ later) = 0
+unfoldable pub steps_made : (System → Given → Configuration → Bool) → System → Rooms → Next → List Given → ℕ
+steps_made such S rooms (goes_on c) [] = 0
+steps_made such S rooms (ends outcome c) [] = 0
+steps_made such S rooms (goes_on c) (given ∷ later) = one_if (such S given c) + steps_made such S rooms (advance S rooms given (goes_on c)) later
+steps_made such S rooms (ends outcome c) (given ∷ later) = 0
 
 -- the same with another allowance
 abbrev pub raise : ℕ → Given → Given
@@ -102,6 +102,6 @@ raise allowance given = record { grow = given.grow; hints = given.hints; allowan
 
 -- calls that are given the same, each with no smaller allowance, and perhaps more calls after them
 pub data Raised : List Given → List Given → Type 0 where
-  raisedNone : {more : List Given} → Raised [] more
-  raisedOne : {given : Given} {allowance : ℕ} {later later' : List Given} → given.allowance ≤ allowance → Raised later later'
+  raised_none : {more : List Given} → Raised [] more
+  raised_one : {given : Given} {allowance : ℕ} {later later' : List Given} → given.allowance ≤ allowance → Raised later later'
       → Raised (given ∷ later) (raise allowance given ∷ later')

@@ -5,7 +5,7 @@ use Rattle.std.specs.Prelude.{ℕ, ◌-◌, ◌/◌, ◌%◌, ◌^◌, ◌≡◌
 use Rattle.std.proofs.Math.Option.{Option}
 use Rattle.std.specs.Int.Bits.{bit_and, bit_or, bit_xor}
 use Rattle.lists.specs.Tests.{◌and◌, neg}
-use Rattle.lists.specs.Lists.{firstFrom}
+use Rattle.lists.specs.Lists.{first_from}
 
 -- binary digit q of a number
 abbrev pub digit : ℕ → ℕ → ℕ
@@ -48,5 +48,5 @@ unfoldable pub absent : ℕ → ℕ → ℕ → Bool
 absent a b q = member q a and neg (member q b)
 
 -- the lowest state that is in the first set and absent from the second; a state's number is lower than that of a set which has it
-unfoldable pub lowestAbsent : ℕ → ℕ → Option ℕ
-lowestAbsent a b = firstFrom (absent a b) a 0
+unfoldable pub lowest_absent : ℕ → ℕ → Option ℕ
+lowest_absent a b = first_from (absent a b) a 0

@@ -2,9 +2,9 @@
 ghost use Rattle.std.specs.Prelude.{◌≡◌, false, ◌≤◌, ◌<◌};
 ghost use Rattle.std.proofs.Math.Option.{some};
 ghost use Rattle.lists.specs.Tests.{choose};
-ghost use Rattle.masks.specs.Sets.{subset as isSubset, member as isMember, within as isWithin, absent as isAbsent};
-ghost use Rattle.masks.specs.Sets.{without as setWithout};
-ghost use Rattle.masks.specs.Sets.{union, single, full as fullSet, lowestAbsent};
+ghost use Rattle.masks.specs.Sets.{subset as is_subset, member as is_member, within as is_within, absent as is_absent};
+ghost use Rattle.masks.specs.Sets.{without as set_without};
+ghost use Rattle.masks.specs.Sets.{union, single, full as full_set, lowest_absent};
 
 // A state's number.
 #[derive(Drop)]
@@ -12,14 +12,14 @@ pub struct State(pub u8);
 
 // Whether each state of a is in b.
 pub fn subset(a: u64, b: u64) -> bool
-    ensures { result ≡ isSubset a b }
+    ensures { result ≡ is_subset a b }
 {
     a & b == a
 }
 
 // Whether a adds no state to b, which is whether each state of a is in b. It names a once: that keeps a row's case one load in the walk over rows.
 pub fn adds_none(a: u64, b: u64) -> bool
-    ensures { result ≡ isSubset a b }
+    ensures { result ≡ is_subset a b }
 {
     a | b == b
 }
@@ -27,7 +27,7 @@ pub fn adds_none(a: u64, b: u64) -> bool
 // Whether the state q is in the set.
 pub fn member(q: State, set: u64) -> bool
     requires { q.0 < 64 }
-    ensures { result ≡ isMember q.0 set }
+    ensures { result ≡ is_member q.0 set }
 {
     set >> q.0 & 1 == 1
 }
@@ -35,14 +35,14 @@ pub fn member(q: State, set: u64) -> bool
 // Whether the state q is in a and absent from b.
 pub fn absent(q: State, a: u64, b: u64) -> bool
     requires { q.0 < 64 }
-    ensures { result ≡ isAbsent a b q.0 }
+    ensures { result ≡ is_absent a b q.0 }
 {
     member(q, without(a, b))
 }
 
 // The states of a that are not in b.
 pub fn without(a: u64, b: u64) -> u64
-    ensures { result ≡ setWithout a b }
+    ensures { result ≡ set_without a b }
 {
     a & b ^ a
 }
@@ -66,14 +66,14 @@ pub fn insert_if(test: bool, q: State, set: u64) -> u64
 // The set of all n states.
 pub fn full(n: u8) -> u64
     requires { (1 ≤ n) × (n ≤ 64) }
-    ensures { result ≡ fullSet n }
+    ensures { result ≡ full_set n }
 {
     18446744073709551615u64 >> (64 - n)
 }
 
 // Whether the set has no state at n or above; no mask has a state at 64 or above.
 pub fn within(n: u8, set: u64) -> bool
-    ensures { result ≡ isWithin n set }
+    ensures { result ≡ is_within n set }
 {
     if n == 0 {
         return set == 0;
@@ -86,8 +86,8 @@ pub fn within(n: u8, set: u64) -> bool
 
 // The lowest state of a that is absent from b, where there is one.
 pub fn lowest_absent(a: u64, b: u64) -> State
-    requires { isSubset a b ≡ false }
-    ensures { lowestAbsent a b ≡ some result.0 }
+    requires { is_subset a b ≡ false }
+    ensures { lowest_absent a b ≡ some result.0 }
 {
     State(u64::trailing_zeros(without(a, b)) as u8)
 }

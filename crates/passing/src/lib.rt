@@ -2,12 +2,12 @@
 // Assumes nothing.
 ghost use Rattle.std.specs.Prelude.{◌≡◌, ◌<◌, T};
 ghost use Rattle.masks.specs.Sets.{within};
-ghost use Rattle.automata.specs.Image.{statesOf};
+ghost use Rattle.automata.specs.Image.{states_of};
 ghost use Rattle.automata.specs.Answers.{ReadAs};
-ghost use Rattle.machine.specs.Machine.{settled as isSettled, passes as passesTest, withState, byStates};
-ghost use Rattle.machine.specs.Lending.{blockersBefore};
-ghost use Rattle.machine.specs.Runs.{systemOf};
-ghost use Rattle.passing.specs.Grown.{allSettled, Grown};
+ghost use Rattle.machine.specs.Machine.{settled as is_settled, passes as passes_test, with_state, by_states};
+ghost use Rattle.machine.specs.Lending.{blockers_before};
+ghost use Rattle.machine.specs.Runs.{system_of};
+ghost use Rattle.passing.specs.Grown.{all_settled, Grown};
 
 use automata::backward::backward;
 use automata::image::{Head, Symbol};
@@ -16,7 +16,7 @@ use masks::State;
 
 // Whether p, a backward set of y, is inside y or blocked one level below.
 fn settled(initial: u64, masks: &[u64], levels: &[u32], below: Level, y: u64, p: u64) -> bool
-    ensures { result ≡ isSettled initial (blockersBefore masks levels) below.0 y p }
+    ensures { result ≡ is_settled initial (blockers_before masks levels) below.0 y p }
 {
     if masks::subset(p, y) {
         return true;
@@ -34,7 +34,7 @@ fn all_settled(
     y: u64,
 ) -> bool
     requires { ReadAs image.now head }
-    ensures { result ≡ allSettled image.now (blockersBefore masks levels) below.0 y }
+    ensures { result ≡ all_settled image.now (blockers_before masks levels) below.0 y }
 {
     let mut symbol = Symbol(0);
     while symbol.0 < head.symbols {
@@ -58,7 +58,7 @@ pub fn passes(
     y: u64,
 ) -> bool
     requires { ReadAs image.now head }
-    ensures { result ≡ passesTest (systemOf image.now) (blockersBefore masks levels) below.0 x y }
+    ensures { result ≡ passes_test (system_of image.now) (blockers_before masks levels) below.0 x y }
 {
     if !masks::subset(x, y) {
         return false;
@@ -84,8 +84,8 @@ fn with_state(
     q: State,
     y: u64,
 ) -> u64
-    requires { ReadAs image.now head × (q.0 < statesOf image.now) × Grown image.now x y }
-    ensures { result ≡ withState (systemOf image.now) (blockersBefore masks levels) below.0 x q.0 y }
+    requires { ReadAs image.now head × (q.0 < states_of image.now) × Grown image.now x y }
+    ensures { result ≡ with_state (system_of image.now) (blockers_before masks levels) below.0 x q.0 y }
 {
     if masks::member(q, x) {
         return y;
@@ -102,8 +102,8 @@ fn with_state(
 
 // The set that x grows to by its states, as what blocks it one level above `below`: each is tried with all backward sets.
 pub fn by_each(image: &[u8], head: Head, masks: &[u64], levels: &[u32], below: Level, x: u64) -> u64
-    requires { ReadAs image.now head × T (within (statesOf image.now) x) }
-    ensures { result ≡ byStates (systemOf image.now) (blockersBefore masks levels) below.0 x }
+    requires { ReadAs image.now head × T (within (states_of image.now) x) }
+    ensures { result ≡ by_states (system_of image.now) (blockers_before masks levels) below.0 x }
 {
     let mut y = x;
     let mut q = State(0);

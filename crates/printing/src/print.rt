@@ -2,16 +2,16 @@
 // they fit.
 ghost use Rattle.std.specs.Prelude.{◌≡◌, [], ◌∷◌, ◌+◌, ◌^◌, ◌≤◌, ◌<◌, length};
 ghost use Rattle.std.proofs.lemmas.List.Edits.{sets};
-ghost use Rattle.automata.specs.Automaton.{automatonOf};
+ghost use Rattle.automata.specs.Automaton.{automaton_of};
 ghost use Rattle.automata.specs.WordTest.{WordOf};
-ghost use Rattle.automata.specs.Picks.{eventsOver};
+ghost use Rattle.automata.specs.Picks.{events_over};
 ghost use Rattle.automata.specs.Answers.{head_of};
-ghost use Rattle.writing.specs.Lines.{numbersLine};
-ghost use Rattle.writing.specs.Rooms.{answer_of, fittedBytes};
+ghost use Rattle.writing.specs.Lines.{numbers_line};
+ghost use Rattle.writing.specs.Rooms.{answer_of, fitted_bytes};
 ghost use Rattle.writing.specs.Putting.{Puts};
-ghost use Rattle.machine.specs.Print.{printOf, printRun};
+ghost use Rattle.machine.specs.Print.{print_of, print_run};
 ghost use Rattle.printing.specs.Steps.{Ready};
-ghost use Rattle.printing.specs.Putting.{eventsIn, eventLines, PutsEvents};
+ghost use Rattle.printing.specs.Putting.{events_in, event_lines, PutsEvents};
 
 use crate::steps::{accept, fill, step_through};
 use automata::image::{Head, Image, Symbol};
@@ -27,8 +27,8 @@ struct Put {
 
 // The first line; answers the place behind it.
 fn put_start(room: &mut [u8], initial: u64) -> usize
-    ensures place { result ≡ length (numbersLine (initial ∷ [])) }
-    ensures bytes { room.new ≡ sets room.old 0 (numbersLine (initial ∷ [])) }
+    ensures place { result ≡ length (numbers_line (initial ∷ [])) }
+    ensures bytes { room.new ≡ sets room.old 0 (numbers_line (initial ∷ [])) }
 {
     let end = put_number(room, 0, initial);
     put_byte(room, end, 10);
@@ -38,8 +38,8 @@ fn put_start(room: &mut [u8], initial: u64) -> usize
 // An event's line from a place on; answers the place behind it.
 fn put_event(room: &mut [u8], at: usize, symbol: Symbol, case: u64) -> usize
     requires { at < 2 ^ 63 }
-    ensures place { result ≡ at + length (numbersLine (symbol.0 ∷ case ∷ [])) }
-    ensures bytes { room.new ≡ sets room.old at (numbersLine (symbol.0 ∷ case ∷ [])) }
+    ensures place { result ≡ at + length (numbers_line (symbol.0 ∷ case ∷ [])) }
+    ensures bytes { room.new ≡ sets room.old at (numbers_line (symbol.0 ∷ case ∷ [])) }
 {
     let middle = put_number(room, at, symbol.0 as u64);
     put_byte(room, middle, 32);
@@ -51,7 +51,7 @@ fn put_event(room: &mut [u8], at: usize, symbol: Symbol, case: u64) -> usize
 // The lines of the word's events from a place on, with their cases in a table; answers the place behind them. It stops once the limit is passed.
 fn put_lines(word: &[u8], table: &[u64], room: &mut [u8], start: usize, limit: usize) -> usize
     requires { (length word.now ≤ length table.now) × (limit < 2 ^ 63) }
-    ensures { Puts (eventLines (eventsIn word.now table.now)) start limit result room.old room.new }
+    ensures { Puts (event_lines (events_in word.now table.now)) start limit result room.old room.new }
 {
     let mut end = start;
     let mut i: usize = 0;
@@ -77,7 +77,7 @@ fn put_events(
     limit: usize,
 ) -> Put
     requires { WordOf image.now word.now × (0 < length table.old) × (limit < 2 ^ 63) }
-    ensures { PutsEvents (eventsOver (automatonOf image.now) z x word.now)
+    ensures { PutsEvents (events_over (automaton_of image.now) z x word.now)
         x start limit result.end result.case room.old room.new }
 {
     if word.len() <= table.len() {
@@ -112,7 +112,7 @@ fn put_run(
 ) -> usize
     requires { WordOf image.now word.now × (head ≡ head_of image.now) × (0 < length table.old) × (limit < 2 ^ 63)
         × Ready image.now word.now table.old }
-    ensures bytes { Puts (printOf (automatonOf image.now) word.now) 0 limit result room.old room.new }
+    ensures bytes { Puts (print_of (automaton_of image.now) word.now) 0 limit result room.old room.new }
     ensures ready { Ready image.now word.now table.new }
 {
     let start = put_start(room, head.initial);
@@ -141,7 +141,7 @@ fn print_accepted(
     room: &mut [u8],
 ) -> Written
     requires { WordOf image.now word.now × (head ≡ head_of image.now) × (0 < length table.old) × Ready image.now word.now table.old }
-    ensures { answer_of result room.new ≡ fittedBytes 1 (printOf (automatonOf image.now) word.now) room.old }
+    ensures { answer_of result room.new ≡ fitted_bytes 1 (print_of (automaton_of image.now) word.now) room.old }
 {
     let mut nowhere = [0u8; 0];
     let length = put_run(image, word, head, table, &mut nowhere, room.len());
@@ -159,7 +159,7 @@ fn print_accepted(
 // run has found each set and each case is worked out once.
 fn print_known(image: &[u8], word: &[u8], head: Head, room: &mut [u8]) -> Written
     requires { WordOf image.now word.now × (head ≡ head_of image.now) }
-    ensures { answer_of result room.new ≡ printRun image.now word.now room.old }
+    ensures { answer_of result room.new ≡ print_run image.now word.now room.old }
 {
     let mut table = [0u64; 65536];
     if !accept(image, word, head, &mut table) {
@@ -174,7 +174,7 @@ fn print_known(image: &[u8], word: &[u8], head: Head, room: &mut [u8]) -> Writte
 // The print of the word's run: the number under which the image is refused; 32 where a symbol is k or above; 0 where the word is not accepted; 35 where the
 // room is too short; else 1 and the length, with the bytes in the room's first places and the others as they were. Nothing is written on another number.
 pub fn print_run(image: &[u8], word: &[u8], room: &mut [u8]) -> Written
-    ensures { answer_of result room.new ≡ printRun image.now word.now room.old }
+    ensures { answer_of result room.new ≡ print_run image.now word.now room.old }
 {
     match automata::image::read_image(image) {
         Image::Refused(number) => Written {

@@ -1,9 +1,9 @@
 // The cases that a word's run reaches, in a table: first each place holds the set inside which its case must lie, and then the case itself.
 ghost use Rattle.std.specs.Prelude.{◌≡◌, true, ◌++◌, ◌≤◌, length, drop};
-ghost use Rattle.automata.specs.Automaton.{automatonOf, takenBack};
+ghost use Rattle.automata.specs.Automaton.{automaton_of, taken_back};
 ghost use Rattle.automata.specs.WordTest.{accepts, WordOf};
 ghost use Rattle.automata.specs.Answers.{head_of};
-ghost use Rattle.printing.specs.Steps.{setsBehind, eventsBy, cases_of, caseAfter, Ready};
+ghost use Rattle.printing.specs.Steps.{sets_behind, events_by, cases_of, case_after, Ready};
 
 use automata::backward::backward;
 use automata::image::{Head, Symbol};
@@ -13,8 +13,8 @@ use automata::word::taken_back;
 // The set z taken back by the whole word; the table has it taken back by what remains behind each symbol.
 pub(crate) fn fill(image: &[u8], word: &[u8], z: u64, table: &mut [u64]) -> u64
     requires { WordOf image.now word.now × (length word.now ≤ length table.old) }
-    ensures back { result ≡ takenBack (automatonOf image.now) word.now z }
-    ensures sets { table.new ≡ setsBehind (automatonOf image.now) z word.now
+    ensures back { result ≡ taken_back (automaton_of image.now) word.now z }
+    ensures sets { table.new ≡ sets_behind (automaton_of image.now) z word.now
         ++ drop (length word.now) table.old }
 {
     let mut case = z;
@@ -30,8 +30,8 @@ pub(crate) fn fill(image: &[u8], word: &[u8], z: u64, table: &mut [u64]) -> u64
 // The case that x reaches by the whole word, inside the sets of the table; the table then has the case that it reaches by each symbol.
 pub(crate) fn step_through(image: &[u8], word: &[u8], x: u64, table: &mut [u64]) -> u64
     requires { WordOf image.now word.now × (length word.now ≤ length table.old) }
-    ensures last { result ≡ caseAfter x (eventsBy (automatonOf image.now) x word.now table.old) }
-    ensures cases { table.new ≡ cases_of (eventsBy (automatonOf image.now) x word.now table.old)
+    ensures last { result ≡ case_after x (events_by (automaton_of image.now) x word.now table.old) }
+    ensures cases { table.new ≡ cases_of (events_by (automaton_of image.now) x word.now table.old)
         ++ drop (length word.now) table.old }
 {
     let mut case = x;
@@ -48,7 +48,7 @@ pub(crate) fn step_through(image: &[u8], word: &[u8], x: u64, table: &mut [u64])
 // Whether the word is accepted. If it is, a table that is long enough has the cases of its run.
 pub(crate) fn accept(image: &[u8], word: &[u8], head: Head, table: &mut [u64]) -> bool
     requires { WordOf image.now word.now × (head ≡ head_of image.now) }
-    ensures accepted { result ≡ accepts (automatonOf image.now) word.now }
+    ensures accepted { result ≡ accepts (automaton_of image.now) word.now }
     ensures ready { result ≡ true → Ready image.now word.now table.new }
 {
     if table.len() < word.len() {

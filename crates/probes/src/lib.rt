@@ -1,7 +1,7 @@
 // What the tests ask of functions that the C interface does not have. include/afa.h does not declare it, and the library's archive does not hold it.
 ghost use Rattle.std.specs.Prelude.{◌≡◌};
-ghost use Rattle.automata.specs.Answers.{readImage};
-ghost use Rattle.probes.specs.Walks.{walkNumber, walkedAfter};
+ghost use Rattle.automata.specs.Answers.{read_image};
+ghost use Rattle.probes.specs.Walks.{walk_number, walked_after};
 
 use automata::image::{Image, Symbol};
 
@@ -9,8 +9,8 @@ use automata::image::{Image, Symbol};
 // the symbol is k or above, and `walked` as it was.
 #[unsafe(no_mangle)]
 pub extern "C" fn afa_walk(image: &[u8], symbol: u64, case: u64, walked: &mut [u64; 2]) -> u64
-    ensures number { result ≡ walkNumber symbol (readImage image.now) }
-    ensures values { walked.new ≡ walkedAfter walked.old image.now symbol case (readImage image.now) }
+    ensures number { result ≡ walk_number symbol (read_image image.now) }
+    ensures values { walked.new ≡ walked_after walked.old image.now symbol case (read_image image.now) }
 {
     match automata::image::read_image(image) {
         Image::Refused(number) => number as u64,

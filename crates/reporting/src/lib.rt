@@ -1,11 +1,11 @@
 // The two lines of a run, as 01's program prints them, in a lent room. Their bytes are counted first, and written only if they fit.
 ghost use Rattle.std.specs.Prelude.{◌≡◌, ◌+◌, ◌*◌, ◌^◌, ◌≤◌, ◌<◌, min, max, length, take};
-ghost use Rattle.writing.specs.Lines.{numbersLine, text_of};
-ghost use Rattle.writing.specs.Rooms.{answer_of, fittedBytes};
+ghost use Rattle.writing.specs.Lines.{numbers_line, text_of};
+ghost use Rattle.writing.specs.Rooms.{answer_of, fitted_bytes};
 ghost use Rattle.writing.specs.Putting.{Puts};
-ghost use Rattle.machine.specs.Runs.{fiveNumbers};
-ghost use Rattle.machine.specs.Program.{secondLine, twoLines};
-ghost use Rattle.checker.specs.Stage.{recordIn};
+ghost use Rattle.machine.specs.Runs.{five_numbers};
+ghost use Rattle.machine.specs.Program.{second_line, two_lines};
+ghost use Rattle.checker.specs.Stage.{record_in};
 
 use checker::record::Run;
 use writing::{Written, put_line, put_line_of_bytes};
@@ -20,7 +20,7 @@ fn least(a: usize, b: usize) -> usize
 fn put_first(room: &mut [u8], limit: usize, run: Run) -> usize
     requires { limit < 2 ^ 63 }
     ensures near { result ≤ 106 }
-    ensures bytes { Puts (numbersLine (fiveNumbers (recordIn run))) 0 limit result room.old room.new }
+    ensures bytes { Puts (numbers_line (five_numbers (record_in run))) 0 limit result room.old room.new }
 {
     let level = run.level;
     let numbers = [
@@ -44,7 +44,7 @@ fn put_second(
 ) -> usize
     requires { limit < 2 ^ 63 }
     ensures near { result ≤ start + 21 * max (length masks.now) (length symbols.now) + 1 }
-    ensures bytes { Puts (numbersLine (secondLine run.answer (take run.held masks.now) (take run.level.0 symbols.now)))
+    ensures bytes { Puts (numbers_line (second_line run.answer (take run.held masks.now) (take run.level.0 symbols.now)))
         start limit result room.old room.new }
 {
     if run.answer == 0 {
@@ -64,7 +64,7 @@ fn put_second(
 fn put_lines(room: &mut [u8], limit: usize, run: Run, masks: &[u64], symbols: &[u8]) -> usize
     requires { limit < 2 ^ 63 }
     ensures near { result ≤ 107 + 21 * max (length masks.now) (length symbols.now) }
-    ensures bytes { Puts (text_of (twoLines (recordIn run) masks.now symbols.now))
+    ensures bytes { Puts (text_of (two_lines (record_in run) masks.now symbols.now))
         0 limit result room.old room.new }
 {
     let start = put_first(room, limit, run);
@@ -76,7 +76,7 @@ fn put_lines(room: &mut [u8], limit: usize, run: Run, masks: &[u64], symbols: &[
 pub fn lines(run: Run, masks: &[u64], symbols: &[u8], room: &mut [u8]) -> Written
     ensures enough { 107 + 21 * max (length masks.now) (length symbols.now) ≤ length room.old → result.number ≡ 0 }
     ensures bytes { answer_of result room.new
-        ≡ fittedBytes 0 (text_of (twoLines (recordIn run) masks.now symbols.now)) room.old }
+        ≡ fitted_bytes 0 (text_of (two_lines (record_in run) masks.now symbols.now)) room.old }
 {
     let mut nowhere = [0u8; 0];
     let length = put_lines(&mut nowhere, room.len(), run, masks, symbols);

@@ -8,11 +8,11 @@ use native.Mathlib.Omega.{arith}
 use borrow.Author.Tests.{leb-true, leb-false}
 use lib.Dec.{leb}
 use Rattle.machine.specs.System.{System}
-use Rattle.machine.specs.Machine.{Blocker, riseLevels}
+use Rattle.machine.specs.Machine.{Blocker, rise_levels}
 use Rattle.machine.specs.Lent.{BlockerRoom}
 use Rattle.blockers.specs.Room.{HoldsRoom, table_of}
-use Rattle.rising.specs.Risen.{risenAt, risenBy, Becomes}
-use Rattle.rising.proofs.Composing.{becomes-table, becomes-same, Changed, unchanged, changed-further}
+use Rattle.rising.specs.Risen.{risen_at, risen_by, Becomes}
+use Rattle.rising.proofs.Composing.{becomes_table, becomes_same, Changed, unchanged, changed_further}
 
 -- a loop over the levels up to `top`, before level j
 pub record LevelsTo (top j : ℕ) : Type 0 where
@@ -23,52 +23,52 @@ module _ {top j : ℕ} (to : LevelsTo top j) {within : Bool} (t : within ≡ tru
   pub at_most : j ≤ top
   at_most = leb-true j top (sym test ∙ t)
 
-  pub level-fits : {limit : ℕ} → top < limit → j < limit
-  level-fits h = omega (arith, at_most)
+  pub level_fits : {limit : ℕ} → top < limit → j < limit
+  level_fits h = omega (arith, at_most)
 
-  pub level-nears : {next : ℕ} → next ≡ j + 1 → (top + 1) - next < (top + 1) - j
-  level-nears e = omega (arith, at_most)
+  pub level_nears : {next : ℕ} → next ≡ j + 1 → (top + 1) - next < (top + 1) - j
+  level_nears e = omega (arith, at_most)
 
-  pub level-next : {next : ℕ} → next ≡ j + 1 → LevelsTo top next
-  level-next e = record { most = omega (arith, at_most) }
+  pub level_next : {next : ℕ} → next ≡ j + 1 → LevelsTo top next
+  level_next e = record { most = omega (arith, at_most) }
 
 -- The rises before level j: the table as it stands took the first one's place, and what the levels from j on make of it is what all make of the first.
 pub record LevelsRisen (S : System) (first : BlockerRoom) (held top count j : ℕ) (room : BlockerRoom) : Type 0 where
   pub to : LevelsTo top j
   pub changed : Changed first held count room
-  pub left : riseLevels S ((top + 1) - j) j (table_of count room) ≡ risenBy S top (table_of held first)
+  pub left : rise_levels S ((top + 1) - j) j (table_of count room) ≡ risen_by S top (table_of held first)
 
-pub levels-start : {S : System} {room : BlockerRoom} {held top : ℕ} → HoldsRoom held room → LevelsRisen S room held top held 1 room
-levels-start {S} {room} {held} {top} holds =
+pub levels_start : {S : System} {room : BlockerRoom} {held top : ℕ} → HoldsRoom held room → LevelsRisen S room held top held 1 room
+levels_start {S} {room} {held} {top} holds =
     let e : (top + 1) - 1 ≡ top = omega arith in
     record {
       to = record { most = omega arith };
       changed = unchanged holds;
-      left = ap (λ (count : ℕ). riseLevels S count 1 (table_of held room)) e;
+      left = ap (λ (count : ℕ). rise_levels S count 1 (table_of held room)) e;
     }
 
 module _ {S : System} {first : BlockerRoom} {held top count j : ℕ} {room : BlockerRoom}
     (risen : LevelsRisen S first held top count j room) {within : Bool} where
-  pub levels-go : {count' : ℕ} {room' : BlockerRoom}
-      → Becomes count (risenAt S j (table_of count room)) room count' room'
+  pub levels_go : {count' : ℕ} {room' : BlockerRoom}
+      → Becomes count (risen_at S j (table_of count room)) room count' room'
       → within ≡ true → within ≡ leb j top → {next : ℕ} → next ≡ j + 1
       → LevelsRisen S first held top count' next room'
-  unfolding riseLevels
-  levels-go {count'} {room'} change t test {next} one =
+  unfolding rise_levels
+  levels_go {count'} {room'} change t test {next} one =
       let e : (top + 1) - j ≡ suc ((top + 1) - next) = omega (arith, at_most risen.to t test) in
       record {
-        to = level-next risen.to t test one;
-        changed = changed-further risen.changed change;
+        to = level_next risen.to t test one;
+        changed = changed_further risen.changed change;
         left =
-            ap₂ (λ (at : ℕ) (table : List Blocker). riseLevels S ((top + 1) - next) at table) (one ∙ add-one j) (becomes-table change)
-            ∙ ap (λ (turns : ℕ). riseLevels S turns j (table_of count room)) (sym e)
+            ap₂ (λ (at : ℕ) (table : List Blocker). rise_levels S ((top + 1) - next) at table) (one ∙ add-one j) (becomes_table change)
+            ∙ ap (λ (turns : ℕ). rise_levels S turns j (table_of count room)) (sym e)
             ∙ risen.left;
       }
 
-  pub levels-end : within ≡ false → within ≡ leb j top
-      → Becomes held (risenBy S top (table_of held first)) first count room
-  unfolding riseLevels
-  levels-end f test =
+  pub levels_end : within ≡ false → within ≡ leb j top
+      → Becomes held (risen_by S top (table_of held first)) first count room
+  unfolding rise_levels
+  levels_end f test =
       let l : top < j = leb-false j top (sym test ∙ f) in
       let e : 0 ≡ (top + 1) - j = omega arith in
-      becomes-same risen.changed.becomes (ap (λ (turns : ℕ). riseLevels S turns j (table_of count room)) e ∙ risen.left)
+      becomes_same risen.changed.becomes (ap (λ (turns : ℕ). rise_levels S turns j (table_of count room)) e ∙ risen.left)

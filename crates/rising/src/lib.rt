@@ -2,12 +2,12 @@
 // nothing is faster, and it is the way for tables that no run made.
 ghost use Rattle.std.specs.Prelude.{◌≡◌, ◌<◌, length};
 ghost use Rattle.automata.specs.Answers.{ReadAs};
-ghost use Rattle.machine.specs.Machine.{rises as risesTest};
-ghost use Rattle.machine.specs.Lent.{blockerAt};
-ghost use Rattle.machine.specs.Lending.{unstampedBefore, roomNow, roomBefore, roomAfter, blockersBefore};
-ghost use Rattle.machine.specs.Runs.{systemOf};
+ghost use Rattle.machine.specs.Machine.{rises as rises_test};
+ghost use Rattle.machine.specs.Lent.{blocker_at};
+ghost use Rattle.machine.specs.Lending.{unstamped_before, room_now, room_before, room_after, blockers_before};
+ghost use Rattle.machine.specs.Runs.{system_of};
 ghost use Rattle.blockers.specs.Room.{HoldsRoom, table_of};
-ghost use Rattle.rising.specs.Risen.{risenAt, risenBy, Becomes};
+ghost use Rattle.rising.specs.Risen.{risen_at, risen_by, Becomes};
 
 use automata::backward::backward;
 use automata::image::{Head, Symbol};
@@ -23,8 +23,8 @@ fn rises(
     place: usize,
 ) -> bool
     requires { ReadAs image.now head × (length masks.now ≡ length levels.now) × (place < length masks.now) }
-    ensures { result ≡ risesTest (systemOf image.now) (blockersBefore masks levels) level.0
-        (blockerAt (unstampedBefore masks levels) place) }
+    ensures { result ≡ rises_test (system_of image.now) (blockers_before masks levels) level.0
+        (blocker_at (unstamped_before masks levels) place) }
 {
     if !Level(levels[place]).equals(level) {
         return false;
@@ -52,9 +52,9 @@ fn rise_level(
     held: usize,
     level: Level,
 ) -> usize
-    requires { ReadAs image.now head × HoldsRoom held (roomNow masks levels entered) × (level.0 < 4294967295) }
-    ensures { Becomes held (risenAt (systemOf image.now) level.0 (table_of held (roomBefore masks levels entered)))
-        (roomBefore masks levels entered) result (roomAfter masks levels entered) }
+    requires { ReadAs image.now head × HoldsRoom held (room_now masks levels entered) × (level.0 < 4294967295) }
+    ensures { Becomes held (risen_at (system_of image.now) level.0 (table_of held (room_before masks levels entered)))
+        (room_before masks levels entered) result (room_after masks levels entered) }
 {
     let mut count = held;
     let mut place: usize = 0;
@@ -80,9 +80,9 @@ pub fn rise_levels(
     held: usize,
     top: Level,
 ) -> usize
-    requires { ReadAs image.now head × HoldsRoom held (roomNow masks levels entered) × (top.0 < 4294967295) }
-    ensures { Becomes held (risenBy (systemOf image.now) top.0 (table_of held (roomBefore masks levels entered)))
-        (roomBefore masks levels entered) result (roomAfter masks levels entered) }
+    requires { ReadAs image.now head × HoldsRoom held (room_now masks levels entered) × (top.0 < 4294967295) }
+    ensures { Becomes held (risen_by (system_of image.now) top.0 (table_of held (room_before masks levels entered)))
+        (room_before masks levels entered) result (room_after masks levels entered) }
 {
     let mut count = held;
     let mut level = Level(1);

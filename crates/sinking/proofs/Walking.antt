@@ -10,26 +10,26 @@ use borrow.Author.Tests.{not-true, not-false, lt-leb, lt-ltb, ltb-false, eqb-tru
 use lib.Dec.{leb, ltb, eqb}
 use lib.ListN.{length, get_or, drop}
 use Rattle.lists.specs.Tests.{◌and◌, ◌or◌, choose}
-use Rattle.lists.specs.Lists.{any, keep, eachFrom}
+use Rattle.lists.specs.Lists.{any, keep, each_from}
 use Rattle.lists.proofs.Tests.{holds, fails}
 use Rattle.masks.specs.Sets.{subset}
 use Rattle.machine.specs.System.{System}
 use Rattle.machine.specs.Machine.{Blocker, covers, blocked, rises, risen, frame}
-use Rattle.machine.specs.Lent.{roomOf, blockerAt, blockersFrom, unstampedRoom}
-use Rattle.machine.proofs.Unstamped.{unstamped-blocks}
+use Rattle.machine.specs.Lent.{room_of, blocker_at, blockers_from, unstamped_room}
+use Rattle.machine.proofs.Unstamped.{unstamped_blocks}
 use Rattle.blockers.specs.Room.{table_of}
-use Rattle.blockers.proofs.Walks.{next-blocker, no-blocker}
-use Rattle.rising.specs.Risen.{risenAt}
-use Rattle.indexing.specs.Index.{Next, Index, sunkLevel, RisenIn}
-use Rattle.sinking.specs.Sunk.{eachCovered, TriedIn, LevelRisen}
-use Rattle.rising.proofs.Along.{along, along-ends, table-apart, one_more}
-use Rattle.sinking.proofs.Sinking.{sunken, pass-one, rise_one, frame-last}
+use Rattle.blockers.proofs.Walks.{next_blocker, no_blocker}
+use Rattle.rising.specs.Risen.{risen_at}
+use Rattle.indexing.specs.Index.{Next, Index, sunk_level, RisenIn}
+use Rattle.sinking.specs.Sunk.{each_covered, TriedIn, LevelRisen}
+use Rattle.rising.proofs.Along.{along, along_ends, table_apart, one_more}
+use Rattle.sinking.proofs.Sinking.{sunken, pass_one, rise_one, frame_last}
 
 -- blockers of level 0 cover nothing at level 1 or above
-frame-covers : (i P : ℕ) (table : List Blocker) → any (covers (suc i) P) (frame 0 table) ≡ any (covers (suc i) P) table
+frame_covers : (i P : ℕ) (table : List Blocker) → any (covers (suc i) P) (frame 0 table) ≡ any (covers (suc i) P) table
 unfolding any frame keep covers choose ◌or◌ ◌and◌
-frame-covers i P [] = refl
-frame-covers i P (b ∷ table) = at (ltb 0 b.level) refl (frame-covers i P table)
+frame_covers i P [] = refl
+frame_covers i P (b ∷ table) = at (ltb 0 b.level) refl (frame_covers i P table)
   where
     at : (u : Bool) → ltb 0 b.level ≡ u → any (covers (suc i) P) (frame 0 table) ≡ any (covers (suc i) P) table
         → any (covers (suc i) P) (frame 0 (b ∷ table)) ≡ any (covers (suc i) P) (b ∷ table)
@@ -37,20 +37,20 @@ frame-covers i P (b ∷ table) = at (ltb 0 b.level) refl (frame-covers i P table
     at false u rec = rw (u, lt-leb (suc i) b.level (omega (arith, ltb-false 0 b.level u))) rec
 
 -- so whether a blocker rises is told by all masks and levels, those of level 0 too
-rises-told : (S : System) (j : ℕ) → 1 ≤ j → (masks levels entered : List ℕ) (held : ℕ) (b : Blocker)
-    → rises S (frame 0 (table_of held (roomOf masks levels entered))) j b
-    ≡ eqb b.level j and eachCovered S (blockersFrom (unstampedRoom masks levels) held 0) j b.mask
+rises_told : (S : System) (j : ℕ) → 1 ≤ j → (masks levels entered : List ℕ) (held : ℕ) (b : Blocker)
+    → rises S (frame 0 (table_of held (room_of masks levels entered))) j b
+    ≡ eqb b.level j and each_covered S (blockers_from (unstamped_room masks levels) held 0) j b.mask
 unfolding rises blocked
-rises-told S zero p masks levels entered held b = absurd (omega arith)
-rises-told S (suc i) p masks levels entered held b =
-    ap (λ (test : ℕ → Bool). eqb b.level (suc i) and eachFrom (λ s. test (S.backward s b.mask)) S.symbols 0)
-    (fun_ext (λ P. frame-covers i P (table_of held (roomOf masks levels entered))
-    ∙ sym (ap (λ (test : ℕ → ℕ → Bool). test (suc i) P) (unstamped-blocks S.initial (roomOf masks levels entered) held 0).alike)))
+rises_told S zero p masks levels entered held b = absurd (omega arith)
+rises_told S (suc i) p masks levels entered held b =
+    ap (λ (test : ℕ → Bool). eqb b.level (suc i) and each_from (λ s. test (S.backward s b.mask)) S.symbols 0)
+    (fun_ext (λ P. frame_covers i P (table_of held (room_of masks levels entered))
+    ∙ sym (ap (λ (test : ℕ → ℕ → Bool). test (suc i) P) (unstamped_blocks S.initial (room_of masks levels entered) held 0).alike)))
 
 -- a blocker that has not sunk to 0 is of its old level
-sunk-was : (mask level other old j : ℕ) → 1 ≤ j → j ≤ sunkLevel mask level other old → j ≤ old
-unfolding sunkLevel choose
-sunk-was mask level other old j p = at (leb old level and subset other mask)
+sunk_was : (mask level other old j : ℕ) → 1 ≤ j → j ≤ sunk_level mask level other old → j ≤ old
+unfolding sunk_level choose
+sunk_was mask level other old j p = at (leb old level and subset other mask)
   where
     at : (b : Bool) → j ≤ choose b 0 old → j ≤ old
     at true l = absurd (omega arith)
@@ -58,23 +58,23 @@ sunk-was mask level other old j p = at (leb old level and subset other mask)
 
 -- the table once a blocker has risen in its place
 module _ (masks levels levels' entered : List ℕ) {place held : ℕ} (change : RisenIn place held masks levels levels') where
-  sunken-part : (count at : ℕ) → at + count ≤ held → ((i : ℕ) → at ≤ i → i < at + count → i ≡ place → ⊥)
-      → blockersFrom (roomOf masks levels' entered) count at
-      ≡ sunken (risen (blockerAt (roomOf masks levels entered) place)) (blockersFrom (roomOf masks levels entered) count at)
-  unfolding blockersFrom sunken risen
-  sunken-part zero at l n = refl
-  sunken-part (suc count) at l n =
+  sunken_part : (count at : ℕ) → at + count ≤ held → ((i : ℕ) → at ≤ i → i < at + count → i ≡ place → ⊥)
+      → blockers_from (room_of masks levels' entered) count at
+      ≡ sunken (risen (blocker_at (room_of masks levels entered) place)) (blockers_from (room_of masks levels entered) count at)
+  unfolding blockers_from sunken risen
+  sunken_part zero at l n = refl
+  sunken_part (suc count) at l n =
       ap₂ (λ (level : ℕ) (rest : List Blocker). record { mask = get_or masks at 0; level = level; entered = get_or entered at 0 } ∷ rest)
       (change.others at (omega arith) (n at (omega arith) (omega arith)))
-      (sunken-part count (suc at) (omega arith) (λ i a b. n i (omega arith) (omega arith)))
+      (sunken_part count (suc at) (omega arith) (λ i a b. n i (omega arith) (omega arith)))
 
-  risen-there : blockerAt (roomOf masks levels' entered) place ≡ risen (blockerAt (roomOf masks levels entered) place)
+  risen_there : blocker_at (room_of masks levels' entered) place ≡ risen (blocker_at (room_of masks levels entered) place)
   unfolding risen
-  risen-there = ap (λ (level : ℕ). record { mask = get_or masks place 0; level = level; entered = get_or entered place 0 }) change.risen
+  risen_there = ap (λ (level : ℕ). record { mask = get_or masks place 0; level = level; entered = get_or entered place 0 }) change.risen
 
-risen-up : (b : Blocker) → ltb 0 (risen b).level ≡ true
+risen_up : (b : Blocker) → ltb 0 (risen b).level ≡ true
 unfolding risen
-risen-up b = lt-ltb 0 (suc b.level) (omega arith)
+risen_up b = lt-ltb 0 (suc b.level) (omega arith)
 
 -- The walk at level j before a place: what it makes of the table as it stands is what it makes of the first, the index still lists what it must, and
 -- levels behind the table are as before.
@@ -86,48 +86,48 @@ pub record Walk (S : System) (j held upto end : ℕ) (masks low places levels₀
   pub behind : drop held levels ≡ drop held levels₀
   pub was : (i : ℕ) → i < held → j ≤ get_or levels i 0 → j ≤ get_or levels₀ i 0
   pub left : (entered : List ℕ)
-      → along S j (frame 0 (blockersFrom (roomOf masks levels entered) place 0)) (frame 0 (blockersFrom (roomOf masks levels entered) (held - place) place))
-      ≡ risenAt S j (frame 0 (table_of held (roomOf masks levels₀ entered)))
+      → along S j (frame 0 (blockers_from (room_of masks levels entered) place 0)) (frame 0 (blockers_from (room_of masks levels entered) (held - place) place))
+      ≡ risen_at S j (frame 0 (table_of held (room_of masks levels₀ entered)))
 
-pub walk-starts : {S : System} {j held upto end : ℕ} {masks low places levels : List ℕ} → 1 ≤ j → Index j held upto end masks levels low places
+pub walk_starts : {S : System} {j held upto end : ℕ} {masks low places levels : List ℕ} → 1 ≤ j → Index j held upto end masks levels low places
     → Walk S j held upto end masks low places levels 0 levels
-unfolding along frame keep blockersFrom
-walk-starts {S} {j} {held} {upto} {end} {masks} {low} {places} {levels} p index = record {
+unfolding along frame keep blockers_from
+walk_starts {S} {j} {held} {upto} {end} {masks} {low} {places} {levels} p index = record {
   within = omega arith;
   positive = p;
   index = index;
   long = refl;
   behind = refl;
   was = λ i l h. h;
-  left = λ entered. ap (λ (count : ℕ). along S j [] (frame 0 (table_of count (roomOf masks levels entered)))) (sub-zero held);
+  left = λ entered. ap (λ (count : ℕ). along S j [] (frame 0 (table_of count (room_of masks levels entered)))) (sub-zero held);
 }
 
 module _ {S : System} {j held upto end : ℕ} {masks low places levels₀ : List ℕ} where
   module _ {place : ℕ} {levels : List ℕ} (walk : Walk S j held upto end masks low places levels₀ place levels) (l : place < held) where
     abbrev front : List ℕ → List Blocker
-    front entered = blockersFrom (roomOf masks levels entered) place 0
+    front entered = blockers_from (room_of masks levels entered) place 0
 
     abbrev rest : List ℕ → List Blocker
-    rest entered = blockersFrom (roomOf masks levels entered) (held - (place + 1)) (place + 1)
+    rest entered = blockers_from (room_of masks levels entered) (held - (place + 1)) (place + 1)
 
     abbrev one : List ℕ → Blocker
-    one entered = blockerAt (roomOf masks levels entered) place
+    one entered = blocker_at (room_of masks levels entered) place
 
     next : (entered : List ℕ) → along S j (frame 0 (front entered)) (frame 0 (one entered ∷ rest entered))
-        ≡ risenAt S j (frame 0 (table_of held (roomOf masks levels₀ entered)))
+        ≡ risen_at S j (frame 0 (table_of held (room_of masks levels₀ entered)))
     next entered =
-        ap (λ (ahead : List Blocker). along S j (frame 0 (front entered)) (frame 0 ahead)) (sym (next-blocker (roomOf masks levels entered) held place l))
+        ap (λ (ahead : List Blocker). along S j (frame 0 (front entered)) (frame 0 ahead)) (sym (next_blocker (room_of masks levels entered) held place l))
         ∙ walk.left entered
 
     tested : (entered : List ℕ) {b : Bool}
-        → eqb (get_or levels place 0) j and eachCovered S (blockersFrom (unstampedRoom masks levels) held 0) j (get_or masks place 0) ≡ b
+        → eqb (get_or levels place 0) j and each_covered S (blockers_from (unstamped_room masks levels) held 0) j (get_or masks place 0) ≡ b
         → rises S (frame 0 (front entered ++ one entered ∷ rest entered)) j (one entered) ≡ b
     tested entered e =
-        ap (λ (table : List Blocker). rises S (frame 0 table) j (one entered)) (table-apart (roomOf masks levels entered) held place l)
-        ∙ rises-told S j walk.positive masks levels entered held (one entered)
+        ap (λ (table : List Blocker). rises S (frame 0 table) j (one entered)) (table_apart (room_of masks levels entered) held place l)
+        ∙ rises_told S j walk.positive masks levels entered held (one entered)
         ∙ e
 
-    pass : eqb (get_or levels place 0) j and eachCovered S (blockersFrom (unstampedRoom masks levels) held 0) j (get_or masks place 0) ≡ false
+    pass : eqb (get_or levels place 0) j and each_covered S (blockers_from (unstamped_room masks levels) held 0) j (get_or masks place 0) ≡ false
         → Walk S j held upto end masks low places levels₀ (place + 1) levels
     pass f = record {
       within = omega arith;
@@ -137,12 +137,12 @@ module _ {S : System} {j held upto end : ℕ} {masks low places levels₀ : List
       behind = walk.behind;
       was = walk.was;
       left = λ entered.
-          ap (λ (passed : List Blocker). along S j (frame 0 passed) (frame 0 (rest entered))) (sym (one_more (roomOf masks levels entered) place))
-          ∙ sym (pass-one S j (front entered) (one entered) (rest entered) (tested entered f))
+          ap (λ (passed : List Blocker). along S j (frame 0 passed) (frame 0 (rest entered))) (sym (one_more (room_of masks levels entered) place))
+          ∙ sym (pass_one S j (front entered) (one entered) (rest entered) (tested entered f))
           ∙ next entered;
     }
 
-    rise : eqb (get_or levels place 0) j ≡ true → eachCovered S (blockersFrom (unstampedRoom masks levels) held 0) j (get_or masks place 0) ≡ true
+    rise : eqb (get_or levels place 0) j ≡ true → each_covered S (blockers_from (unstamped_room masks levels) held 0) j (get_or masks place 0) ≡ true
         → {levels' : List ℕ} → RisenIn place held masks levels levels' → length levels' ≡ length levels
         → Walk S j held upto end masks low places levels₀ (place + 1) levels'
     unfolding ◌and◌
@@ -150,47 +150,47 @@ module _ {S : System} {j held upto end : ℕ} {masks low places levels₀ : List
       within = omega arith;
       positive = walk.positive;
       index = record {
-        in-masks = walk.index.in-masks;
-        in-levels = omega (arith, walk.index.in-levels);
-        in-low = walk.index.in-low;
-        in-places = walk.index.in-places;
+        in_masks = walk.index.in_masks;
+        in_levels = omega (arith, walk.index.in_levels);
+        in_low = walk.index.in_low;
+        in_places = walk.index.in_places;
         within = walk.index.within;
-        held-places = walk.index.held-places;
+        held_places = walk.index.held_places;
         halves = walk.index.halves;
-        every = λ p h high. walk.index.every p h (was-now p (omega (arith, walk.index.within)) high);
+        every = λ p h high. walk.index.every p h (was_now p (omega (arith, walk.index.within)) high);
       };
       long = long ∙ walk.long;
       behind = change.behind ∙ walk.behind;
-      was = λ i h high. walk.was i h (was-now i h high);
+      was = λ i h high. walk.was i h (was_now i h high);
       left = λ entered. moved entered ∙ next entered;
     }
       where
-        was-now : (i : ℕ) → i < held → j ≤ get_or levels' i 0 → j ≤ get_or levels i 0
-        was-now i h high = by (ℕ_discrete i place)
+        was_now : (i : ℕ) → i < held → j ≤ get_or levels' i 0 → j ≤ get_or levels i 0
+        was_now i h high = by (ℕ_discrete i place)
           where
             by : Dec (i ≡ place) → j ≤ get_or levels i 0
             by (yes same) = rw same (omega (arith, eqb-true (get_or levels place 0) j e))
-            by (no other) = sunk-was _ _ _ _ j walk.positive (rw (change.others i h other) at high)
+            by (no other) = sunk_was _ _ _ _ j walk.positive (rw (change.others i h other) at high)
 
-        positive-level : ltb 0 (get_or levels place 0) ≡ true
-        positive-level = lt-ltb 0 (get_or levels place 0) (omega (arith, eqb-true (get_or levels place 0) j e, walk.positive))
+        positive_level : ltb 0 (get_or levels place 0) ≡ true
+        positive_level = lt-ltb 0 (get_or levels place 0) (omega (arith, eqb-true (get_or levels place 0) j e, walk.positive))
 
         moved : (entered : List ℕ)
-            → along S j (frame 0 (blockersFrom (roomOf masks levels' entered) (place + 1) 0))
-            (frame 0 (blockersFrom (roomOf masks levels' entered) (held - (place + 1)) (place + 1)))
+            → along S j (frame 0 (blockers_from (room_of masks levels' entered) (place + 1) 0))
+            (frame 0 (blockers_from (room_of masks levels' entered) (held - (place + 1)) (place + 1)))
             ≡ along S j (frame 0 (front entered)) (frame 0 (one entered ∷ rest entered))
         moved entered =
             let Y : Blocker = risen (one entered) in
-            let passed : blockersFrom (roomOf masks levels' entered) (place + 1) 0 ≡ sunken Y (front entered) ++ Y ∷ [] =
-            sym (one_more (roomOf masks levels' entered) place)
+            let passed : blockers_from (room_of masks levels' entered) (place + 1) 0 ≡ sunken Y (front entered) ++ Y ∷ [] =
+            sym (one_more (room_of masks levels' entered) place)
             ∙ ap₂ (λ (table : List Blocker) (b : Blocker). table ++ b ∷ [])
-            (sunken-part masks levels levels' entered change place 0 (omega arith) (λ i a b. omega arith))
-            (risen-there masks levels levels' entered change) in
-            let ahead : blockersFrom (roomOf masks levels' entered) (held - (place + 1)) (place + 1) ≡ sunken Y (rest entered) =
-            sunken-part masks levels levels' entered change (held - (place + 1)) (place + 1) (omega arith) (λ i a b. omega arith) in
+            (sunken_part masks levels levels' entered change place 0 (omega arith) (λ i a b. omega arith))
+            (risen_there masks levels levels' entered change) in
+            let ahead : blockers_from (room_of masks levels' entered) (held - (place + 1)) (place + 1) ≡ sunken Y (rest entered) =
+            sunken_part masks levels levels' entered change (held - (place + 1)) (place + 1) (omega arith) (λ i a b. omega arith) in
             ap₂ (λ (first later : List Blocker). along S j (frame 0 first) (frame 0 later)) passed ahead
-            ∙ ap (λ (first : List Blocker). along S j first (frame 0 (sunken Y (rest entered)))) (frame-last S j (sunken Y (front entered)) Y [] (risen-up (one entered)))
-            ∙ sym (rise_one S j (front entered) (one entered) (rest entered) positive-level (tested entered (rw e t)))
+            ∙ ap (λ (first : List Blocker). along S j first (frame 0 (sunken Y (rest entered)))) (frame_last S j (sunken Y (front entered)) Y [] (risen_up (one entered)))
+            ∙ sym (rise_one S j (front entered) (one entered) (rest entered) positive_level (tested entered (rw e t)))
 
   -- to the next place of this level, past others
   skip : {from : ℕ} {levels : List ℕ} → Walk S j held upto end masks low places levels₀ from levels → {r : ℕ} → Next (λ other. eqb other j) levels from held r
@@ -218,40 +218,40 @@ finished {S} {j} {held} {upto} {end} {masks} {low} {places} {levels₀} {place} 
       behind = walk.behind;
       was = walk.was;
       table = λ entered.
-          ap (λ (count : ℕ). frame 0 (table_of count (roomOf masks levels entered))) same
-          ∙ sym (along-ends S j (frame 0 (table_of place (roomOf masks levels entered))))
-          ∙ ap (λ (rest : List Blocker). along S j (frame 0 (table_of place (roomOf masks levels entered))) (frame 0 rest))
-          (sym (no-blocker (roomOf masks levels entered) held place l))
+          ap (λ (count : ℕ). frame 0 (table_of count (room_of masks levels entered))) same
+          ∙ sym (along_ends S j (frame 0 (table_of place (room_of masks levels entered))))
+          ∙ ap (λ (rest : List Blocker). along S j (frame 0 (table_of place (room_of masks levels entered))) (frame 0 rest))
+          (sym (no_blocker (room_of masks levels entered) held place l))
           ∙ walk.left entered;
     }
 
 -- what the code does with the blocker at the place that was found
-pub tries-stay : {test b : Bool} {place held : ℕ} {masks levels : List ℕ} → b ≡ test → not b ≡ true → TriedIn test place held masks levels levels
-tries-stay {b = b} e n = record { stays = λ f. refl; rises = λ t. absurd (fails (sym e ∙ not-true b n) (holds t)) }
+pub tries_stay : {test b : Bool} {place held : ℕ} {masks levels : List ℕ} → b ≡ test → not b ≡ true → TriedIn test place held masks levels levels
+tries_stay {b = b} e n = record { stays = λ f. refl; rises = λ t. absurd (fails (sym e ∙ not-true b n) (holds t)) }
 
-pub tries-rise : {test b : Bool} {place held : ℕ} {masks levels levels' : List ℕ} → b ≡ test → not b ≡ false → RisenIn place held masks levels levels'
+pub tries_rise : {test b : Bool} {place held : ℕ} {masks levels levels' : List ℕ} → b ≡ test → not b ≡ false → RisenIn place held masks levels levels'
     → TriedIn test place held masks levels levels'
-tries-rise {b = b} e n change = record { stays = λ f. absurd (fails f (holds (sym e ∙ not-false b n))); rises = λ t. change }
+tries_rise {b = b} e n change = record { stays = λ f. absurd (fails f (holds (sym e ∙ not-false b n))); rises = λ t. change }
 
 module _ {S : System} {j held upto end : ℕ} {masks low places levels₀ : List ℕ} {from : ℕ} {levels : List ℕ}
     (walk : Walk S j held upto end masks low places levels₀ from levels) where
-  pub walk-index : Index j held upto end masks levels low places
-  walk-index = walk.index
+  pub walk_index : Index j held upto end masks levels low places
+  walk_index = walk.index
 
-  pub walk-levels : held ≤ length levels
-  walk-levels = walk.index.in-levels
+  pub walk_levels : held ≤ length levels
+  walk_levels = walk.index.in_levels
 
   module _ {place : ℕ} (next : Next (λ other. eqb other j) levels from held place) where
-    pub walk-below : {limit : ℕ} → place < held → j < limit → get_or levels place 0 < limit
-    walk-below l h = omega (arith, eqb-true (get_or levels place 0) j (next.found l))
+    pub walk_below : {limit : ℕ} → place < held → j < limit → get_or levels place 0 < limit
+    walk_below l h = omega (arith, eqb-true (get_or levels place 0) j (next.found l))
 
-    pub walk-goes : place < held → {levels' : List ℕ}
-        → TriedIn (eachCovered S (blockersFrom (unstampedRoom masks levels) held 0) j (get_or masks place 0)) place held masks levels levels'
+    pub walk_goes : place < held → {levels' : List ℕ}
+        → TriedIn (each_covered S (blockers_from (unstamped_room masks levels) held 0) j (get_or masks place 0)) place held masks levels levels'
         → length levels' ≡ length levels → Walk S j held upto end masks low places levels₀ (place + 1) levels'
     unfolding ◌and◌
-    walk-goes l {levels'} tried long = at (eachCovered S (blockersFrom (unstampedRoom masks levels) held 0) j (get_or masks place 0)) refl
+    walk_goes l {levels'} tried long = at (each_covered S (blockers_from (unstamped_room masks levels) held 0) j (get_or masks place 0)) refl
       where
-        at : (b : Bool) → eachCovered S (blockersFrom (unstampedRoom masks levels) held 0) j (get_or masks place 0) ≡ b
+        at : (b : Bool) → each_covered S (blockers_from (unstamped_room masks levels) held 0) j (get_or masks place 0) ≡ b
             → Walk S j held upto end masks low places levels₀ (place + 1) levels'
         at true e = rise (skip walk next) l (next.found l) e (tried.rises e) long
         at false e =

@@ -2,11 +2,11 @@
 // all have risen. So no blocker may be of level 0 before.
 ghost use Rattle.std.specs.Prelude.{◌≡◌, ◌≤◌, ◌<◌, length, get_or};
 ghost use Rattle.automata.specs.Answers.{ReadAs};
-ghost use Rattle.machine.specs.Lent.{blockersFrom};
-ghost use Rattle.machine.specs.Lending.{unstampedBefore};
-ghost use Rattle.machine.specs.Runs.{systemOf};
+ghost use Rattle.machine.specs.Lent.{blockers_from};
+ghost use Rattle.machine.specs.Lending.{unstamped_before};
+ghost use Rattle.machine.specs.Runs.{system_of};
 ghost use Rattle.indexing.specs.Index.{Index, Noted};
-ghost use Rattle.sinking.specs.Sunk.{eachCovered, TriedIn, LevelRisen, AllRisen};
+ghost use Rattle.sinking.specs.Sunk.{each_covered, TriedIn, LevelRisen, AllRisen};
 
 use automata::backward::backward;
 use automata::image::{Head, Symbol};
@@ -28,7 +28,7 @@ fn each_covered(
     mask: u64,
 ) -> bool
     requires { ReadAs image.now head × Index level.0 held listed.upto listed.end masks.now levels.now low.now places.now }
-    ensures { result ≡ eachCovered (systemOf image.now) (blockersFrom (unstampedBefore masks levels) held 0) level.0 mask }
+    ensures { result ≡ each_covered (system_of image.now) (blockers_from (unstamped_before masks levels) held 0) level.0 mask }
 {
     let mut symbol = Symbol(0);
     while symbol.0 < head.symbols {
@@ -58,7 +58,7 @@ fn try_rise(
     requires { ReadAs image.now head × Noted held masks.now lacks.now
         × Index level.0 held listed.upto listed.end masks.now levels.old low.now places.now
         × (place < held) × (get_or levels.old place 0 < 4294967295) }
-    ensures { TriedIn (eachCovered (systemOf image.now) (blockersFrom (unstampedBefore masks levels) held 0) level.0 (get_or masks.now place 0))
+    ensures { TriedIn (each_covered (system_of image.now) (blockers_from (unstamped_before masks levels) held 0) level.0 (get_or masks.now place 0))
         place held masks.now levels.old levels.new }
 {
     let mask = masks[place];
@@ -85,7 +85,7 @@ fn rise_level(
 )
     requires { ReadAs image.now head × Noted held masks.now lacks.now
         × Index level.0 held listed.upto listed.end masks.now levels.old low.now places.now × (1 ≤ level.0) × (level.0 < 4294967295) }
-    ensures { LevelRisen (systemOf image.now) level.0 held masks.now levels.old levels.new }
+    ensures { LevelRisen (system_of image.now) level.0 held masks.now levels.old levels.new }
 {
     let mut from: usize = 0;
     while from < held {
@@ -138,7 +138,7 @@ fn rise_by(
     requires { ReadAs image.now head × Noted held masks.now lacks.now
         × Index 1 held listed.upto listed.end masks.now levels.old low.old places.old
         × (top.0 < 4294967295) × (1 ≤ every) × (length low.old ≡ length places.old) }
-    ensures { AllRisen (systemOf image.now) top.0 held masks.now levels.old levels.new }
+    ensures { AllRisen (system_of image.now) top.0 held masks.now levels.old levels.new }
 {
     let mut extent = listed;
     let mut level = Level(1);
@@ -165,7 +165,7 @@ fn rise_levels(
 )
     requires { ReadAs image.now head × (top.0 < 4294967295) × (held ≤ length masks.now) × (held ≤ length levels.old)
         × (length low.old ≡ length places.old) }
-    ensures { AllRisen (systemOf image.now) top.0 held masks.now levels.old levels.new }
+    ensures { AllRisen (system_of image.now) top.0 held masks.now levels.old levels.new }
 {
     leaving::note(masks, held, lacks);
     let listed = index::gather(masks, levels, held, low, places, Level(1));
@@ -178,7 +178,7 @@ fn rise_levels(
 // The rises by an index of few places.
 fn rise_few(image: &[u8], head: Head, masks: &[u64], levels: &mut [u32], held: usize, top: Level)
     requires { ReadAs image.now head × (top.0 < 4294967295) × (held ≤ length masks.now) × (held ≤ length levels.old) }
-    ensures { AllRisen (systemOf image.now) top.0 held masks.now levels.old levels.new }
+    ensures { AllRisen (system_of image.now) top.0 held masks.now levels.old levels.new }
 {
     let mut low = [0u32; sizes::FEW_INDEXED];
     let mut places = [0u32; sizes::FEW_INDEXED];
@@ -199,7 +199,7 @@ fn rise_few(image: &[u8], head: Head, masks: &[u64], levels: &mut [u32], held: u
 // The rises by an index of many places.
 fn rise_many(image: &[u8], head: Head, masks: &[u64], levels: &mut [u32], held: usize, top: Level)
     requires { ReadAs image.now head × (top.0 < 4294967295) × (held ≤ length masks.now) × (held ≤ length levels.old) }
-    ensures { AllRisen (systemOf image.now) top.0 held masks.now levels.old levels.new }
+    ensures { AllRisen (system_of image.now) top.0 held masks.now levels.old levels.new }
 {
     let mut low = [0u32; sizes::MANY_INDEXED];
     let mut places = [0u32; sizes::MANY_INDEXED];
@@ -220,7 +220,7 @@ fn rise_many(image: &[u8], head: Head, masks: &[u64], levels: &mut [u32], held: 
 // The rises by an index of as many places as one ever has. More blockers may be held: those that it does not reach are asked one by one.
 fn rise_most(image: &[u8], head: Head, masks: &[u64], levels: &mut [u32], held: usize, top: Level)
     requires { ReadAs image.now head × (top.0 < 4294967295) × (held ≤ length masks.now) × (held ≤ length levels.old) }
-    ensures { AllRisen (systemOf image.now) top.0 held masks.now levels.old levels.new }
+    ensures { AllRisen (system_of image.now) top.0 held masks.now levels.old levels.new }
 {
     let mut low = [0u32; sizes::MOST_INDEXED];
     let mut places = [0u32; sizes::MOST_INDEXED];
@@ -248,7 +248,7 @@ pub fn rise_in_room(
     top: Level,
 )
     requires { ReadAs image.now head × (top.0 < 4294967295) × (held ≤ length masks.now) × (held ≤ length levels.old) }
-    ensures { AllRisen (systemOf image.now) top.0 held masks.now levels.old levels.new }
+    ensures { AllRisen (system_of image.now) top.0 held masks.now levels.old levels.new }
 {
     if held <= sizes::FEW_INDEXED {
         rise_few(image, head, masks, levels, held, top);

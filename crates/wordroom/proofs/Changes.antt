@@ -14,14 +14,14 @@ use lib.ListN.{
   length-append,
   length-set,
   length-replicate,
-  length-reverse,
+  length_reverse,
   replicate-append-replicate,
   take-append-drop,
 }
 use lib.Seq.{take-suc, drop-cons, append_snoc, set_at, set_split, length-take-le}
 use Rattle.machine.specs.Machine.{word_of}
-use Rattle.machine.specs.Lent.{WordRoom, wordRoomOf, pendingFirst, columnBack, placed, withPending, withWord}
-use Rattle.machine.proofs.LentTables.{cases-front, symbols-front, placed-exact}
+use Rattle.machine.specs.Lent.{WordRoom, word_room_of, pending_first, column_back, placed, with_pending, with_word}
+use Rattle.machine.proofs.LentTables.{cases_front, symbols_front, placed_exact}
 use Rattle.bytes.specs.Bytes.{rev, slice}
 use Rattle.wordroom.specs.Room.{Holds}
 
@@ -49,44 +49,44 @@ one_less table count h p =
 
 -- the room after a push, and after a pop
 module _ (cases symbols : List ℕ) (count : ℕ) where
-  pub pushed : (case symbol : ℕ) → Holds (count + 1) (wordRoomOf cases symbols)
-      → wordRoomOf (set cases count case) (set symbols count symbol)
-      ≡ withPending count (record { case = case; symbol = symbol } ∷ pendingFirst (wordRoomOf cases symbols) count) (wordRoomOf cases symbols)
-  unfolding withPending columnBack
+  pub pushed : (case symbol : ℕ) → Holds (count + 1) (word_room_of cases symbols)
+      → word_room_of (set cases count case) (set symbols count symbol)
+      ≡ with_pending count (record { case = case; symbol = symbol } ∷ pending_first (word_room_of cases symbols) count) (word_room_of cases symbols)
+  unfolding with_pending column_back
   pushed case symbol holds =
       rw (
-        cases-front (wordRoomOf cases symbols) count (omega (arith, holds.in-cases)),
-        symbols-front (wordRoomOf cases symbols) count (omega (arith, holds.in-symbols)),
-        one_more cases count case holds.in-cases,
-        one_more symbols count symbol holds.in-symbols,
+        cases_front (word_room_of cases symbols) count (omega (arith, holds.in_cases)),
+        symbols_front (word_room_of cases symbols) count (omega (arith, holds.in_symbols)),
+        one_more cases count case holds.in_cases,
+        one_more symbols count symbol holds.in_symbols,
       )
 
-  pub popped : Holds count (wordRoomOf cases symbols) → 1 ≤ count
-      → wordRoomOf (set cases (count - 1) 0) (set symbols (count - 1) 0)
-      ≡ withPending count (pendingFirst (wordRoomOf cases symbols) (count - 1)) (wordRoomOf cases symbols)
-  unfolding withPending
+  pub popped : Holds count (word_room_of cases symbols) → 1 ≤ count
+      → word_room_of (set cases (count - 1) 0) (set symbols (count - 1) 0)
+      ≡ with_pending count (pending_first (word_room_of cases symbols) (count - 1)) (word_room_of cases symbols)
+  unfolding with_pending
   popped holds some =
       rw (
-        cases-front (wordRoomOf cases symbols) (count - 1) (omega (arith, holds.in-cases)),
-        symbols-front (wordRoomOf cases symbols) (count - 1) (omega (arith, holds.in-symbols)),
-        one_less cases count holds.in-cases some,
-        one_less symbols count holds.in-symbols some,
+        cases_front (word_room_of cases symbols) (count - 1) (omega (arith, holds.in_cases)),
+        symbols_front (word_room_of cases symbols) (count - 1) (omega (arith, holds.in_symbols)),
+        one_less cases count holds.in_cases some,
+        one_less symbols count holds.in_symbols some,
       )
 
 -- no entry in place of the first `count`: 0 in each of their places
-none-placed : (count : ℕ) (before : List ℕ) → placed count [] before ≡ replicate count 0 ++ drop count before
+none_placed : (count : ℕ) (before : List ℕ) → placed count [] before ≡ replicate count 0 ++ drop count before
 unfolding placed
-none-placed count before =
+none_placed count before =
     let free : count - 0 ≡ count = omega arith in
     let most : max count 0 ≡ count = omega arith in
     rw (free, most)
 
 -- and in one place more
-none-next : (at : ℕ) (before : List ℕ) → at < length before → set (placed at [] before) at 0 ≡ placed (at + 1) [] before
-none-next at before h =
+none_next : (at : ℕ) (before : List ℕ) → at < length before → set (placed at [] before) at 0 ≡ placed (at + 1) [] before
+none_next at before h =
     rw (
-      none-placed at before,
-      none-placed (at + 1) before,
+      none_placed at before,
+      none_placed (at + 1) before,
       ← replicate-append-replicate {A = ℕ} at 1 0,
       append_snoc (replicate at 0) 0 (drop (at + 1) before),
       add-one,
@@ -101,46 +101,46 @@ pub record Clearing (count : ℕ) (before now : List ℕ) (at : ℕ) : Type 0 wh
   pub kept : length now ≡ length before
   pub cleared : now ≡ placed at [] before
 
-pub clearing-starts : {count : ℕ} {before : List ℕ} → count ≤ length before → Clearing count before before 0
+pub clearing_starts : {count : ℕ} {before : List ℕ} → count ≤ length before → Clearing count before before 0
 unfolding placed
-clearing-starts room = record { bound = omega arith; room = room; kept = refl; cleared = refl }
+clearing_starts room = record { bound = omega arith; room = room; kept = refl; cleared = refl }
 
 module _ {count at : ℕ} {before now : List ℕ} (walk : Clearing count before now at) where
-  pub clearing-next : at < count → Clearing count before (set now at 0) (at + 1)
-  clearing-next l =
+  pub clearing_next : at < count → Clearing count before (set now at 0) (at + 1)
+  clearing_next l =
       record {
         bound = omega arith;
         room = walk.room;
         kept = simp length-set walk.kept;
-        cleared = rw walk.cleared (none-next at before (omega (arith, walk.room)));
+        cleared = rw walk.cleared (none_next at before (omega (arith, walk.room)));
       }
 
-  pub clearing-ends : count ≤ at → now ≡ placed count [] before
-  clearing-ends l = let e : at ≡ count = omega (arith, walk.bound) in walk.cleared ∙ ap (λ (n : ℕ). placed n [] before) e
+  pub clearing_ends : count ≤ at → now ≡ placed count [] before
+  clearing_ends l = let e : at ≡ count = omega (arith, walk.bound) in walk.cleared ∙ ap (λ (n : ℕ). placed n [] before) e
 
 -- both tables
 pub record ClearingBoth (count : ℕ) (before now : WordRoom) (at : ℕ) : Type 0 where
-  pub of-cases : Clearing count before.cases now.cases at
-  pub of-symbols : Clearing count before.symbols now.symbols at
+  pub of_cases : Clearing count before.cases now.cases at
+  pub of_symbols : Clearing count before.symbols now.symbols at
 
-pub both-start : {count : ℕ} {room : WordRoom} → Holds count room → ClearingBoth count room room 0
-both-start holds = record { of-cases = clearing-starts holds.in-cases; of-symbols = clearing-starts holds.in-symbols }
+pub both_start : {count : ℕ} {room : WordRoom} → Holds count room → ClearingBoth count room room 0
+both_start holds = record { of_cases = clearing_starts holds.in_cases; of_symbols = clearing_starts holds.in_symbols }
 
-module _ {count at : ℕ} {before : WordRoom} {cases symbols : List ℕ} (walk : ClearingBoth count before (wordRoomOf cases symbols) at) where
-  pub both-next : at < count → ClearingBoth count before (wordRoomOf (set cases at 0) (set symbols at 0)) (at + 1)
-  both-next l = record { of-cases = clearing-next walk.of-cases l; of-symbols = clearing-next walk.of-symbols l }
+module _ {count at : ℕ} {before : WordRoom} {cases symbols : List ℕ} (walk : ClearingBoth count before (word_room_of cases symbols) at) where
+  pub both_next : at < count → ClearingBoth count before (word_room_of (set cases at 0) (set symbols at 0)) (at + 1)
+  both_next l = record { of_cases = clearing_next walk.of_cases l; of_symbols = clearing_next walk.of_symbols l }
 
-  pub both_end : count ≤ at → wordRoomOf cases symbols ≡ withWord count [] before
-  unfolding withWord
-  both_end l = rw (← clearing-ends walk.of-cases l, ← clearing-ends walk.of-symbols l)
+  pub both_end : count ≤ at → word_room_of cases symbols ≡ with_word count [] before
+  unfolding with_word
+  both_end l = rw (← clearing_ends walk.of_cases l, ← clearing_ends walk.of_symbols l)
 
 -- the symbols that led to the pending cases are those behind the first place, from the last to the first
-word-behind : (cases rest : List ℕ) (first count : ℕ) → count ≤ length rest
-    → word_of (pendingFirst (wordRoomOf cases (first ∷ rest)) (suc count)) ≡ reverse (take count rest)
-unfolding word_of pendingFirst
-word-behind cases rest first zero h = refl
-word-behind cases rest first (suc count) h =
-    ap (λ (word : List ℕ). get_or rest count 0 ∷ word) (word-behind cases rest first count (omega arith))
+word_behind : (cases rest : List ℕ) (first count : ℕ) → count ≤ length rest
+    → word_of (pending_first (word_room_of cases (first ∷ rest)) (suc count)) ≡ reverse (take count rest)
+unfolding word_of pending_first
+word_behind cases rest first zero h = refl
+word_behind cases rest first (suc count) h =
+    ap (λ (word : List ℕ). get_or rest count 0 ∷ word) (word_behind cases rest first count (omega arith))
     ∙ sym (ap reverse (take-suc rest count 0 h) ∙ reverse-append (take count rest) (get_or rest count 0 ∷ []))
 
 -- the table with its places from 1 up to `to` in the other direction
@@ -148,23 +148,23 @@ abbrev turned : ℕ → List ℕ → List ℕ
 turned to table = take 1 table ++ (rev (slice 1 to table) ++ drop to table)
 
 -- with the given symbol in the first place they make up the word
-symbols-turned : (cases symbols : List ℕ) (count symbol : ℕ) → count ≤ length symbols → 1 ≤ count
-    → turned count (set symbols 0 symbol) ≡ placed count (symbol ∷ word_of (pendingFirst (wordRoomOf cases symbols) count)) symbols
+symbols_turned : (cases symbols : List ℕ) (count symbol : ℕ) → count ≤ length symbols → 1 ≤ count
+    → turned count (set symbols 0 symbol) ≡ placed count (symbol ∷ word_of (pending_first (word_room_of cases symbols) count)) symbols
 unfolding rev slice
-symbols-turned cases symbols zero symbol room some = absurd (omega arith)
-symbols-turned cases [] (suc count) symbol room some = absurd (omega arith)
-symbols-turned cases (first ∷ rest) (suc count) symbol room some =
+symbols_turned cases symbols zero symbol room some = absurd (omega arith)
+symbols_turned cases [] (suc count) symbol room some = absurd (omega arith)
+symbols_turned cases (first ∷ rest) (suc count) symbol room some =
     let low : count ≤ length rest = omega arith in
-    let size : length (symbol ∷ reverse (take count rest)) ≡ suc count = ap suc (length-reverse (take count rest) ∙ length-take-le count rest low) in
-    rw (word-behind cases rest first count low) (sym (placed-exact (symbol ∷ reverse (take count rest)) (first ∷ rest) (suc count) size))
+    let size : length (symbol ∷ reverse (take count rest)) ≡ suc count = ap suc (length_reverse (take count rest) ∙ length-take-le count rest low) in
+    rw (word_behind cases rest first count low) (sym (placed_exact (symbol ∷ reverse (take count rest)) (first ∷ rest) (suc count) size))
 
 -- the room after the word is written
-pub word-written : (cases symbols cases' symbols' : List ℕ) (count symbol : ℕ) → Holds count (wordRoomOf cases symbols) → 1 ≤ count
+pub word_written : (cases symbols cases' symbols' : List ℕ) (count symbol : ℕ) → Holds count (word_room_of cases symbols) → 1 ≤ count
     → cases' ≡ placed count [] cases → symbols' ≡ turned count (set symbols 0 symbol)
-    → wordRoomOf cases' symbols' ≡ withWord count (symbol ∷ word_of (pendingFirst (wordRoomOf cases symbols) count)) (wordRoomOf cases symbols)
-unfolding withWord
-word-written cases symbols cases' symbols' count symbol holds some c s = rw (c, s, symbols-turned cases symbols count symbol holds.in-symbols some)
+    → word_room_of cases' symbols' ≡ with_word count (symbol ∷ word_of (pending_first (word_room_of cases symbols) count)) (word_room_of cases symbols)
+unfolding with_word
+word_written cases symbols cases' symbols' count symbol holds some c s = rw (c, s, symbols_turned cases symbols count symbol holds.in_symbols some)
 
 -- a length kept after a store is the length before it
-pub kept-after-store : (after before : List ℕ) (at value : ℕ) → length after ≡ length (set before at value) → length after ≡ length before
-kept-after-store after before at value e = e ∙ length-set before at value
+pub kept_after_store : (after before : List ℕ) (at value : ℕ) → length after ≡ length (set before at value) → length after ≡ length before
+kept_after_store after before at value e = e ∙ length-set before at value

@@ -4,5 +4,5 @@ use Rattle.machine.specs.Lent.{WordRoom}
 
 -- the first `count` places of both tables are there
 pub record Holds (count : ℕ) (room : WordRoom) : Type 0 where
-  pub in-cases : count ≤ length room.cases
-  pub in-symbols : count ≤ length room.symbols
+  pub in_cases : count ≤ length room.cases
+  pub in_symbols : count ≤ length room.symbols

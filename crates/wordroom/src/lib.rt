@@ -2,17 +2,17 @@
 // A place that becomes free holds 0, and what lies behind the places in use stays as it is. Assumes nothing.
 ghost use Rattle.std.specs.Prelude.{◌≡◌, ◌+◌, ◌-◌, ◌≤◌, [], ◌∷◌, length};
 ghost use Rattle.machine.specs.Machine.{word_of};
-ghost use Rattle.machine.specs.Lent.{pendingFirst, placed, withPending, withWord};
-ghost use Rattle.machine.specs.Lending.{wordNow, wordBefore, wordAfter};
+ghost use Rattle.machine.specs.Lent.{pending_first, placed, with_pending, with_word};
+ghost use Rattle.machine.specs.Lending.{word_now, word_before, word_after};
 ghost use Rattle.wordroom.specs.Room.{Holds};
 
 use automata::image::Symbol;
 
 // One more pending case, below the others, with the symbol that led to it.
 pub fn push(cases: &mut [u64], symbols: &mut [u8], count: usize, case: u64, symbol: Symbol)
-    requires { Holds (count + 1) (wordNow cases symbols) }
-    ensures { wordAfter cases symbols ≡ withPending count (record { case = case; symbol = symbol.0 } ∷ pendingFirst (wordBefore cases symbols) count)
-        (wordBefore cases symbols) }
+    requires { Holds (count + 1) (word_now cases symbols) }
+    ensures { word_after cases symbols ≡ with_pending count (record { case = case; symbol = symbol.0 } ∷ pending_first (word_before cases symbols) count)
+        (word_before cases symbols) }
 {
     cases[count] = case;
     symbols[count] = symbol.0;
@@ -20,8 +20,8 @@ pub fn push(cases: &mut [u64], symbols: &mut [u8], count: usize, case: u64, symb
 
 // The pending case of the lowest level leaves. Its places become 0, so that nothing of it is left in the tables.
 pub fn pop(cases: &mut [u64], symbols: &mut [u8], count: usize)
-    requires { Holds count (wordNow cases symbols) × (1 ≤ count) }
-    ensures { wordAfter cases symbols ≡ withPending count (pendingFirst (wordBefore cases symbols) (count - 1)) (wordBefore cases symbols) }
+    requires { Holds count (word_now cases symbols) × (1 ≤ count) }
+    ensures { word_after cases symbols ≡ with_pending count (pending_first (word_before cases symbols) (count - 1)) (word_before cases symbols) }
 {
     cases[count - 1] = 0;
     symbols[count - 1] = 0;
@@ -29,8 +29,8 @@ pub fn pop(cases: &mut [u64], symbols: &mut [u8], count: usize)
 
 // Nothing is pending any more.
 pub fn clear_first(cases: &mut [u64], symbols: &mut [u8], count: usize)
-    requires { Holds count (wordNow cases symbols) }
-    ensures { wordAfter cases symbols ≡ withWord count [] (wordBefore cases symbols) }
+    requires { Holds count (word_now cases symbols) }
+    ensures { word_after cases symbols ≡ with_word count [] (word_before cases symbols) }
 {
     let mut at: usize = 0;
     while at < count {
@@ -55,8 +55,8 @@ fn clear_cases(cases: &mut [u64], count: usize)
 // The word: the given symbol, then the symbols that led to the pending cases from the lowest level up. The symbols stand highest level first, and
 // none led to the case in the first place: so the given symbol takes that place, and those behind it are turned round.
 pub fn write_word(cases: &mut [u64], symbols: &mut [u8], count: usize, symbol: Symbol)
-    requires { Holds count (wordNow cases symbols) × (1 ≤ count) }
-    ensures { wordAfter cases symbols ≡ withWord count (symbol.0 ∷ word_of (pendingFirst (wordBefore cases symbols) count)) (wordBefore cases symbols) }
+    requires { Holds count (word_now cases symbols) × (1 ≤ count) }
+    ensures { word_after cases symbols ≡ with_word count (symbol.0 ∷ word_of (pending_first (word_before cases symbols) count)) (word_before cases symbols) }
 {
     clear_cases(cases, count);
     symbols[0] = symbol.0;

@@ -5,9 +5,9 @@ use Rattle.writing.specs.Decimal.{digits}
 use Rattle.writing.specs.Lines.{space}
 
 -- the number of a place in its line: a space stands before each but the first
-unfoldable pub nextNumber : ℕ → ℕ → List ℕ
-nextNumber zero number = digits number
-nextNumber (suc place) number = space ∷ digits number
+unfoldable pub next_number : ℕ → ℕ → List ℕ
+next_number zero number = digits number
+next_number (suc place) number = space ∷ digits number
 
 -- Bytes were put into a room from `start` on. Where `end` is at most the limit, it is the place behind them and the room holds them; where it is above, so
 -- is that place.

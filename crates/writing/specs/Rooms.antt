@@ -15,8 +15,8 @@ abbrev pub answer_of : Written → List ℕ → Answer
 answer_of made room = record { number = made.number; written = made.length; room = room }
 
 -- "on every other number nothing is written and the length is 0"
-unfoldable pub noBytes : ℕ → List ℕ → Answer
-noBytes number room = record { number = number; written = 0; room = room }
+unfoldable pub no_bytes : ℕ → List ℕ → Answer
+no_bytes number room = record { number = number; written = 0; room = room }
 
 -- "on success .. with that length, the bytes past it staying"
 unfoldable pub all_bytes : ℕ → List ℕ → List ℕ → Answer
@@ -28,5 +28,5 @@ pub record PastStays (room : List ℕ) (answer : Answer) : Type 0 where
   pub as_long : length answer.room ≡ length room
 
 -- 02: "a room too short 35 (no space)"
-unfoldable pub fittedBytes : ℕ → List ℕ → List ℕ → Answer
-fittedBytes success bytes room = choose (leb (length bytes) (length room)) (all_bytes success bytes room) (noBytes 35 room)
+unfoldable pub fitted_bytes : ℕ → List ℕ → List ℕ → Answer
+fitted_bytes success bytes room = choose (leb (length bytes) (length room)) (all_bytes success bytes room) (no_bytes 35 room)

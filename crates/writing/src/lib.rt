@@ -3,8 +3,8 @@
 ghost use Rattle.std.specs.Prelude.{◌≡◌, [], ◌∷◌, ◌+◌, ◌*◌, ◌^◌, ◌≤◌, ◌<◌, length};
 ghost use Rattle.std.proofs.lemmas.List.Edits.{sets};
 ghost use Rattle.writing.specs.Decimal.{digits};
-ghost use Rattle.writing.specs.Lines.{newline, numbersLine};
-ghost use Rattle.writing.specs.Putting.{nextNumber, Puts};
+ghost use Rattle.writing.specs.Lines.{newline, numbers_line};
+ghost use Rattle.writing.specs.Putting.{next_number, Puts};
 
 // What a function that writes bytes answers: its number, and how many bytes were written.
 #[derive(Drop)]
@@ -41,9 +41,9 @@ pub fn put_number(room: &mut [u8], at: usize, number: u64) -> usize
 // The number of a place in its line, with a space before it unless it is the first; answers the place behind it.
 fn put_next(room: &mut [u8], at: usize, place: usize, number: u64) -> usize
     requires { at < 2 ^ 63 }
-    ensures place { result ≡ at + length (nextNumber place number) }
+    ensures place { result ≡ at + length (next_number place number) }
     ensures near { result ≤ at + 21 }
-    ensures bytes { room.new ≡ sets room.old at (nextNumber place number) }
+    ensures bytes { room.new ≡ sets room.old at (next_number place number) }
 {
     if place == 0 {
         return put_number(room, at, number);
@@ -55,9 +55,9 @@ fn put_next(room: &mut [u8], at: usize, place: usize, number: u64) -> usize
 // The same of a number that is a byte.
 fn put_next_byte(room: &mut [u8], at: usize, place: usize, number: u8) -> usize
     requires { at < 2 ^ 63 }
-    ensures place { result ≡ at + length (nextNumber place number) }
+    ensures place { result ≡ at + length (next_number place number) }
     ensures near { result ≤ at + 21 }
-    ensures bytes { room.new ≡ sets room.old at (nextNumber place number) }
+    ensures bytes { room.new ≡ sets room.old at (next_number place number) }
 {
     put_next(room, at, place, number as u64)
 }
@@ -80,7 +80,7 @@ fn put_newline(room: &mut [u8], at: usize, limit: usize) -> usize
 pub fn put_line(room: &mut [u8], start: usize, limit: usize, numbers: &[u64]) -> usize
     requires { limit < 2 ^ 63 }
     ensures near { result ≤ start + 21 * length numbers.now + 1 }
-    ensures bytes { Puts (numbersLine numbers.now) start limit result room.old room.new }
+    ensures bytes { Puts (numbers_line numbers.now) start limit result room.old room.new }
 {
     let mut end = start;
     let mut i: usize = 0;
@@ -98,7 +98,7 @@ pub fn put_line(room: &mut [u8], start: usize, limit: usize, numbers: &[u64]) ->
 pub fn put_line_of_bytes(room: &mut [u8], start: usize, limit: usize, numbers: &[u8]) -> usize
     requires { limit < 2 ^ 63 }
     ensures near { result ≤ start + 21 * length numbers.now + 1 }
-    ensures bytes { Puts (numbersLine numbers.now) start limit result room.old room.new }
+    ensures bytes { Puts (numbers_line numbers.now) start limit result room.old room.new }
 {
     let mut end = start;
     let mut i: usize = 0;

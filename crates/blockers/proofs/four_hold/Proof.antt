@@ -1,10 +1,10 @@
-use Rattle.blockers.proofs.Walks.{four-tested}
+use Rattle.blockers.proofs.Walks.{four_tested}
 use borrow.Author.Rules.{rules}
 use Rattle.blockers.proofs.four_hold.Statement.{statement}
 use Rattle.blockers.proofs.four_hold.Tie as tie
 
 returns : tie.Need-returns
-returns c = search (four-tested, rules)
+returns c = search (four_tested, rules)
 
 pub four-hold-spec : {M : Type 1} → statement M
 four-hold-spec =

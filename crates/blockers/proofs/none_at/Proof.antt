@@ -1,4 +1,4 @@
-use Rattle.blockers.proofs.Walks.{FoursLooked, fours-start, fours-find, fours-go, fours-rest}
+use Rattle.blockers.proofs.Walks.{FoursLooked, fours_start, fours_find, fours_go, fours_rest}
 use Prim.Native.Nat.{◌-◌}
 use lib.ListN.{length}
 use lib.Dec.{eqb}
@@ -13,16 +13,16 @@ abbrev decreases-loop : tie.decreases-loop
 decreases-loop levels level i₀ i = length levels - i
 
 loop-holds : tie.Need-loop-init invariant-loop decreases-loop
-loop-holds c = search (fours-start, rules)
+loop-holds c = search (fours_start, rules)
 
 returns : tie.Need-returns invariant-loop decreases-loop
-returns c = search (fours-find, rules)
+returns c = search (fours_find, rules)
 
 loop-again : tie.Need-loop-preserved invariant-loop decreases-loop
-loop-again c = search (fours-go, rules)
+loop-again c = search (fours_go, rules)
 
 returns-2 : tie.Need-returns-2 invariant-loop decreases-loop
-returns-2 c = search (fours-rest, rules)
+returns-2 c = search (fours_rest, rules)
 
 pub none-at-spec : {M : Type 1} → statement M
 none-at-spec =

@@ -1,4 +1,4 @@
-use Rattle.blockers.proofs.Walks.{Looked, look-starts, look-finds, look-goes, look-ends}
+use Rattle.blockers.proofs.Walks.{Looked, look_starts, look_finds, look_goes, look_ends}
 use Prim.Native.Nat.{◌-◌}
 use lib.ListN.{length}
 use lib.Dec.{eqb}
@@ -13,16 +13,16 @@ abbrev decreases-loop : tie.decreases-loop
 decreases-loop levels from level i₀ i = length levels - i
 
 loop-holds : tie.Need-loop-init invariant-loop decreases-loop
-loop-holds c = search (look-starts, rules)
+loop-holds c = search (look_starts, rules)
 
 returns : tie.Need-returns invariant-loop decreases-loop
-returns c = search (look-finds, rules)
+returns c = search (look_finds, rules)
 
 loop-again : tie.Need-loop-preserved invariant-loop decreases-loop
-loop-again c = search (look-goes, rules)
+loop-again c = search (look_goes, rules)
 
 returns-2 : tie.Need-returns-2 invariant-loop decreases-loop
-returns-2 c = search (look-ends, rules)
+returns-2 c = search (look_ends, rules)
 
 pub none-from-spec : {M : Type 1} → statement M
 none-from-spec =

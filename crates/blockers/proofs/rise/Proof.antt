@@ -1,10 +1,10 @@
-use Rattle.blockers.proofs.Changes.{rise-room, rise-behind, rises-at}
+use Rattle.blockers.proofs.Changes.{rise_room, rise_behind, rises_at}
 use borrow.Author.Rules.{rules}
 use Rattle.blockers.proofs.rise.Statement.{statement}
 use Rattle.blockers.proofs.rise.Tie as tie
 
 put-requires : tie.Need-put-requires
-put-requires c κs = search (rise-room, rules)
+put-requires c κs = search (rise_room, rules)
 
 close-up-requires-2 : tie.Need-close-up-requires-2
 close-up-requires-2 c κs =
@@ -14,7 +14,7 @@ close-up-requires-2 c κs =
     let start : tie.Start = search in (
       search (start.pre, rules),
       search (start.pre, rules),
-      rise-behind start.pre read.above.ensures passed.close_up.ensures _ risen.put.ensures,
+      rise_behind start.pre read.above.ensures passed.close_up.ensures _ risen.put.ensures,
     )
 
 returns : tie.Need-returns
@@ -24,7 +24,7 @@ returns c =
     let passed : tie.After-close-up = search in
     let read : tie.After-above = search in
     let start : tie.Start = search in
-    rises-at start.pre read.above.ensures passed.close_up.ensures risen.put.ensures closed.close-up2.ensures
+    rises_at start.pre read.above.ensures passed.close_up.ensures risen.put.ensures closed.close-up2.ensures
 
 pub rise-spec : {M : Type 1} → statement M
 rise-spec =

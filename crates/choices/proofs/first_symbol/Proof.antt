@@ -1,7 +1,7 @@
 use Prim.Native.Nat.{◌-◌}
 use lib.ListN.{length}
-use Rattle.choices.proofs.Symbols.{SymbolsTried, tried-none, symbol-known, tried-all, try-inside, try-lacking, find-bottom, try-covered, find-open}
-use Rattle.choices.proofs.Symbols.{BlockersTried, tried-starts, tried-goes}
+use Rattle.choices.proofs.Symbols.{SymbolsTried, tried_none, symbol_known, tried_all, try_inside, try_lacking, find_bottom, try_covered, find_open}
+use Rattle.choices.proofs.Symbols.{BlockersTried, tried_starts, tried_goes}
 use borrow.Author.Rules.{rules}
 use Rattle.choices.proofs.first_symbol.Statement.{statement}
 use Rattle.choices.proofs.first_symbol.Tie as tie
@@ -19,36 +19,36 @@ abbrev decreases-symbols : tie.decreases-symbols
 decreases-symbols image head masks levels below x s₀ s-end s = s-end - s
 
 symbols-holds : tie.Need-symbols-init invariant-loop decreases-loop invariant-symbols decreases-symbols
-symbols-holds c = search (tried-none, rules)
+symbols-holds c = search (tried_none, rules)
 
 backward-requires : tie.Need-backward-requires invariant-loop decreases-loop invariant-symbols decreases-symbols
-backward-requires c κs = search (symbol-known, rules)
+backward-requires c κs = search (symbol_known, rules)
 
 symbols-again : tie.Need-symbols-preserved invariant-loop decreases-loop invariant-symbols decreases-symbols
-symbols-again c = search (try-inside, rules)
+symbols-again c = search (try_inside, rules)
 
 symbols-again-2 : tie.Need-symbols-preserved-2 invariant-loop decreases-loop invariant-symbols decreases-symbols
-symbols-again-2 c = search (try-lacking, rules)
+symbols-again-2 c = search (try_lacking, rules)
 
 returns : tie.Need-returns invariant-loop decreases-loop invariant-symbols decreases-symbols
-returns c = search (find-bottom, rules)
+returns c = search (find_bottom, rules)
 
 loop-holds : tie.Need-loop-init invariant-loop decreases-loop invariant-symbols decreases-symbols
-loop-holds c = search (tried-starts, rules)
+loop-holds c = search (tried_starts, rules)
 
 symbols-again-3 : tie.Need-symbols-preserved-3 invariant-loop decreases-loop invariant-symbols decreases-symbols
-symbols-again-3 c = search (try-covered, rules)
+symbols-again-3 c = search (try_covered, rules)
 
 loop-again : tie.Need-loop-preserved invariant-loop decreases-loop invariant-symbols decreases-symbols
 loop-again c =
     let turn : tie.At-loop invariant-loop decreases-loop invariant-symbols decreases-symbols = search in
-    search (tried-goes turn.loop.inv, rules)
+    search (tried_goes turn.loop.inv, rules)
 
 returns-2 : tie.Need-returns-2 invariant-loop decreases-loop invariant-symbols decreases-symbols
-returns-2 c = search (find-open, rules)
+returns-2 c = search (find_open, rules)
 
 returns-3 : tie.Need-returns-3 invariant-loop decreases-loop invariant-symbols decreases-symbols
-returns-3 c = search (tried-all, rules)
+returns-3 c = search (tried_all, rules)
 
 pub first-symbol-spec : {M : Type 1} → statement M
 first-symbol-spec =

@@ -1,14 +1,14 @@
 use borrow.Author.Rules.{rules}
-use Rattle.automata.specs.Answers.{imageNumber}
+use Rattle.automata.specs.Answers.{image_number}
 use Rattle.emptiness.proofs.number_of.Statement.{statement}
 use Rattle.emptiness.proofs.number_of.Tie as tie
 
 returns : tie.Need-returns
-unfolding imageNumber
+unfolding image_number
 returns c = search rules
 
 returns-2 : tie.Need-returns-2
-unfolding imageNumber
+unfolding image_number
 returns-2 c = search rules
 
 pub number-of-spec : {M : Type 1} → statement M

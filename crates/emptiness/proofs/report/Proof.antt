@@ -1,13 +1,13 @@
 use borrow.Author.Rules.{rules}
-use Rattle.emptiness.proofs.Reports.{report-refused, report-run, room-suffices}
+use Rattle.emptiness.proofs.Reports.{report_refused, report_run, room_suffices}
 use Rattle.emptiness.proofs.report.Statement.{statement}
 use Rattle.emptiness.proofs.report.Tie as tie
 
 returns : tie.Need-returns
-returns c = (search (room-suffices, rules), search (report-refused, rules))
+returns c = (search (room_suffices, rules), search (report_refused, rules))
 
 returns-2 : tie.Need-returns-2
-returns-2 c = (search (room-suffices, rules), search (report-run, rules))
+returns-2 c = (search (room_suffices, rules), search (report_run, rules))
 
 pub report-spec : {M : Type 1} → statement M
 report-spec =

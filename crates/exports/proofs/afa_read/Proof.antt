@@ -1,13 +1,13 @@
-use Rattle.exports.proofs.Heads.{number-refused, head-refused, number-valid, head-valid}
+use Rattle.exports.proofs.Heads.{number_refused, head_refused, number_valid, head_valid}
 use borrow.Author.Rules.{rules}
 use Rattle.exports.proofs.afa_read.Statement.{statement}
 use Rattle.exports.proofs.afa_read.Tie as tie
 
 returns : tie.Need-returns
-returns c = (search (number-refused, rules), search (head-refused, rules))
+returns c = (search (number_refused, rules), search (head_refused, rules))
 
 returns-2 : tie.Need-returns-2
-returns-2 c = (search (number-valid, rules), search (head-valid, rules))
+returns-2 c = (search (number_valid, rules), search (head_valid, rules))
 
 pub afa-read-spec : {M : Type 1} → statement M
 afa-read-spec =

@@ -49,23 +49,23 @@ use denote.Triple.Call.{calls_at}
 use denote.Triple.Clauses.{Lasts, at_exit, lasts, ensured}
 use denote.Triple.Table.{entered, cited}
 use denote.Triple.Walked.{says}
-use Rattle.machine.specs.Lent.{BlockerRoom, WordRoom, roomOf, wordRoomOf, lent_of}
+use Rattle.machine.specs.Lent.{BlockerRoom, WordRoom, room_of, word_room_of, lent_of}
 use Rattle.machine.specs.Runs.{Terms}
 use Rattle.machine.specs.Records.{step_of}
-use Rattle.checker.specs.Stage.{termsOf}
-use Rattle.checker.specs.Calls.{recordAs, stageAs, calledAs}
+use Rattle.checker.specs.Stage.{terms_of}
+use Rattle.checker.specs.Calls.{record_as, stage_as, called_as}
 use Rattle.checker.specs.declared.record.Record.{Record}
 use Rattle.checker.specs.contracts.record.Record as R
 use Rattle.checker.proofs.record.Record.TheLaws as R'
-use Rattle.checker.proofs.Walk.{◌▹◌, others, with-last, Blocks, frame_of, backwards, behind, alloc_all, frees_all, loaded, sets, becomes, Stands, lies_in}
+use Rattle.checker.proofs.Walk.{◌▹◌, others, with_last, Blocks, frame_of, backwards, behind, alloc_all, frees_all, loaded, sets, becomes, Stands, lies_in}
 use Rattle.checker.proofs.Walk.{lies_out}
 use Rattle.checker.proofs.Walk.{tokens, Swap, here, gone, added, deeper, spared, gained, takes, puts}
 use Rattle.checker.specs.contracts.step.step_on as step-on
 use Rattle.checker.proofs.step.step_on.Symbol as step-on-def
 use Rattle.checker.proofs.step.step_on.Symbol.{name as #step-on}
 use Rattle.checker.proofs.step.step_on.Met as step-on-thm
-use Rattle.exports.specs.Interface.{recordFrom, numbersAfter, StepGave}
-use Rattle.exports.proofs.Calls.{step-gave}
+use Rattle.exports.specs.Interface.{record_from, numbers_after, StepGave}
+use Rattle.exports.proofs.Calls.{step_gave}
 use Rattle.exports.specs.contracts.record_from as record-from
 use Rattle.exports.proofs.record_from.Symbol as record-from-def
 use Rattle.exports.proofs.record_from.Symbol.{name as #record-from}
@@ -138,10 +138,10 @@ module _ {M : Type 1} {𝓤 : Ura M} (𝓛 : Logic 𝓤) (mem : Memory → SProp
   qs' = others 7 qs
 
   abbrev κs⁺ : Lft → Lfts 8
-  κs⁺ α = with-last 7 κs α
+  κs⁺ α = with_last 7 κs α
 
   abbrev qs⁺ : Shares 8
-  qs⁺ = with-last 7 qs full_share
+  qs⁺ = with_last 7 qs full_share
 
   -- the parameters' types, values and machine values: of `afa_step`, of the ten before the last, and of `step_on`
   abbrev params : List RattleType
@@ -218,7 +218,7 @@ module _ {M : Type 1} {𝓤 : Ura M} (𝓛 : Logic 𝓤) (mem : Memory → SProp
 
   -- what `record_from` and `numbers_after` ensure is the clause alone: neither has a last value
   abbrev Read : Record → Type 0
-  Read r = recordAs r ≡ recordFrom numbers.now
+  Read r = record_as r ≡ record_from numbers.now
 
   abbrev FromEnsures : Record → SProp 𝓤
   FromEnsures = ensured 𝓛 record-from.ended (record-from.clauses 𝓛 mem run) tt (numbers.now, tt) tt
@@ -228,7 +228,7 @@ module _ {M : Type 1} {𝓤 : Ura M} (𝓛 : Logic 𝓤) (mem : Memory → SProp
 
   module _ (number : ℕ) (left : Record) (now : List ℕ) where
     abbrev Carried : Type 0
-    Carried = now ≡ numbersAfter numbers.now number (recordAs left)
+    Carried = now ≡ numbers_after numbers.now number (record_as left)
 
     abbrev AfterEnsures : SProp 𝓤
     AfterEnsures = ensured 𝓛 numbers_after.ended (numbers_after.clauses 𝓛 mem run) tt (numbers.now ▹ number ▹ left ▹ tt) tt now
@@ -238,13 +238,13 @@ module _ {M : Type 1} {𝓤 : Ura M} (𝓛 : Logic 𝓤) (mem : Memory → SProp
 
   -- the rooms before, and what a step is given
   abbrev room₀ : BlockerRoom
-  room₀ = roomOf masks.now levels.now entered.now
+  room₀ = room_of masks.now levels.now entered.now
 
   abbrev word₀ : WordRoom
-  word₀ = wordRoomOf cases.now symbols.now
+  word₀ = word_room_of cases.now symbols.now
 
   abbrev terms : Terms
-  terms = termsOf hints.now allowance edition way
+  terms = terms_of hints.now allowance edition way
 
   -- `step_on` left the tables and the record at ws
   module _ (α : Lft) (kept : Bor Record) (ws : Lasts step-on.ended (κs⁺ α) (args⁺ α kept)) where
@@ -252,10 +252,10 @@ module _ {M : Type 1} {𝓤 : Ura M} (𝓛 : Logic 𝓤) (mem : Memory → SProp
     left = ws.1.1.1.1.1.1.1.1.1.1.0
 
     abbrev room : BlockerRoom
-    room = roomOf ws.1.0 ws.1.1.0 ws.1.1.1.0
+    room = room_of ws.1.0 ws.1.1.0 ws.1.1.1.0
 
     abbrev word : WordRoom
-    word = wordRoomOf ws.1.1.1.1.0 ws.1.1.1.1.1.0
+    word = word_room_of ws.1.1.1.1.0 ws.1.1.1.1.1.0
 
     -- what is said of the last values, the record's among them
     abbrev Said : Fml
@@ -270,7 +270,7 @@ module _ {M : Type 1} {𝓤 : Ura M} (𝓛 : Logic 𝓤) (mem : Memory → SProp
     module _ (number : ℕ) where
       -- what it ensures
       abbrev Stepped : Type 0
-      Stepped = calledAs room word (record { number = number; left = left }) ≡ step_of image.now terms (stageAs room₀ word₀ kept.now)
+      Stepped = called_as room word (record { number = number; left = left }) ≡ step_of image.now terms (stage_as room₀ word₀ kept.now)
 
       -- the numbers are then these: the last values of `afa_step`'s parameters, what says the numbers', and what the locals hold
       module _ (now : List ℕ) where
@@ -296,7 +296,7 @@ module _ {M : Type 1} {𝓤 : Ura M} (𝓛 : Logic 𝓤) (mem : Memory → SProp
 
         abbrev Gives : Type 0
         Gives = StepGave numbers.now number now (lent_of room word)
-            (step_of image.now terms (record { tables = lent_of room₀ word₀; run = recordFrom numbers.now }))
+            (step_of image.now terms (record { tables = lent_of room₀ word₀; run = record_from numbers.now }))
 
         abbrev Ensured : Lasts afa-step.ended κs args → SProp 𝓤
         Ensured us = (afa-step.clauses 𝓛 mem run κs args).ensures tt number (at_exit afa-step.ended κs args us)
@@ -436,7 +436,7 @@ module _ {M : Type 1} {𝓤 : Ura M} (𝓛 : Logic 𝓤) (mem : Memory → SProp
         returns ! (look ! (4 + entry 0) refl) $ move ! (backwards 4 28) $
         frees_all ! {Γ = Ending α kept ws number now} (frame_of (code.function).locals bs) (locals α kept ws number now) $
         by ! (exits α kept ws number now (refl, is''.1)
-        (step-gave image.now terms room₀ word₀ numbers.now r (record { number = number; left = last }) (room α kept ws) (word α kept ws) now
+        (step_gave image.now terms room₀ word₀ numbers.now r (record { number = number; left = last }) (room α kept ws) (word α kept ws) now
         read stepped carried))))))))))))))))))))))
 
 -- how the parameters' machine values are spelled, and that the parameters tell them

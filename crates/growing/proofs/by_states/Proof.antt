@@ -1,11 +1,11 @@
-use Rattle.passing.proofs.States.{grows-beyond}
+use Rattle.passing.proofs.States.{grows_beyond}
 use Rattle.growing.proofs.Begins.{fits_told}
 use borrow.Author.Rules.{rules}
 use Rattle.growing.proofs.by_states.Statement.{statement}
 use Rattle.growing.proofs.by_states.Tie as tie
 
 returns : tie.Need-returns
-returns c = search (grows-beyond, rules)
+returns c = search (grows_beyond, rules)
 
 by-each-requires : tie.Need-by-each-requires
 by-each-requires c κs = (search rules, search (fits_told, rules))

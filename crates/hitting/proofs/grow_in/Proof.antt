@@ -1,17 +1,17 @@
-use Rattle.automata.proofs.Reading.{some-state, states-fit}
-use Rattle.hitting.proofs.Grows.{room-enough, few-enough, grown}
+use Rattle.automata.proofs.Reading.{some_state, states_fit}
+use Rattle.hitting.proofs.Grows.{room_enough, few_enough, grown}
 use borrow.Author.Rules.{rules}
 use Rattle.hitting.proofs.grow_in.Statement.{statement}
 use Rattle.hitting.proofs.grow_in.Tie as tie
 
 gather-requires : tie.Need-gather-requires
-gather-requires c κs = search (room-enough, rules)
+gather-requires c κs = search (room_enough, rules)
 
 pick-requires : tie.Need-pick-requires
-pick-requires c κs = search (some-state, states-fit, few-enough, rules)
+pick-requires c κs = search (some_state, states_fit, few_enough, rules)
 
 full-requires : tie.Need-full-requires
-full-requires c κs = search (some-state, states-fit, rules)
+full-requires c κs = search (some_state, states_fit, rules)
 
 returns : tie.Need-returns
 returns c = search (grown, rules)

@@ -1,10 +1,10 @@
-use Rattle.hitting.proofs.Grows.{all-rows}
+use Rattle.hitting.proofs.Grows.{all_rows}
 use borrow.Author.Rules.{rules}
 use Rattle.hitting.proofs.grow_long.Statement.{statement}
 use Rattle.hitting.proofs.grow_long.Tie as tie
 
 grow-in-requires : tie.Need-grow-in-requires
-grow-in-requires c κs = search (all-rows, rules)
+grow-in-requires c κs = search (all_rows, rules)
 
 pub grow-long-spec : {M : Type 1} → statement M
 grow-long-spec =

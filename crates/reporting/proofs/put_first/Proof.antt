@@ -1,10 +1,10 @@
 use borrow.Author.Rules.{rules}
-use Rattle.machine.specs.Runs.{fiveNumbers}
+use Rattle.machine.specs.Runs.{five_numbers}
 use Rattle.reporting.proofs.put_first.Statement.{statement}
 use Rattle.reporting.proofs.put_first.Tie as tie
 
 returns : tie.Need-returns
-unfolding fiveNumbers
+unfolding five_numbers
 returns c = (search rules, search rules)
 
 pub put-first-spec : {M : Type 1} → statement M

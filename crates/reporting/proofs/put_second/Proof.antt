@@ -1,22 +1,22 @@
 use borrow.Author.Rules.{rules}
-use Rattle.reporting.proofs.SecondLine.{least-long, frame-near, word-near, frame-put, word-put, none-put}
+use Rattle.reporting.proofs.SecondLine.{least_long, frame_near, word_near, frame_put, word_put, none_put}
 use Rattle.reporting.proofs.put_second.Statement.{statement}
 use Rattle.reporting.proofs.put_second.Tie as tie
 
 slice-aggregate-put-line : tie.Need-slice-aggregate-put-line
-slice-aggregate-put-line c = search (least-long, rules)
+slice-aggregate-put-line c = search (least_long, rules)
 
 returns : tie.Need-returns
-returns c = (search (frame-near, rules), search (frame-put, rules))
+returns c = (search (frame_near, rules), search (frame_put, rules))
 
 slice-aggregate-put-line-of-bytes : tie.Need-slice-aggregate-put-line-of-bytes
-slice-aggregate-put-line-of-bytes c = search (least-long, rules)
+slice-aggregate-put-line-of-bytes c = search (least_long, rules)
 
 returns-2 : tie.Need-returns-2
-returns-2 c = (search (word-near, rules), search (word-put, rules))
+returns-2 c = (search (word_near, rules), search (word_put, rules))
 
 returns-3 : tie.Need-returns-3
-returns-3 c = (search rules, search (none-put, rules))
+returns-3 c = (search rules, search (none_put, rules))
 
 pub put-second-spec : {M : Type 1} → statement M
 put-second-spec =

@@ -1,30 +1,30 @@
 use borrow.Author.Rules.{rules}
 use Prim.Native.Nat.{◌-◌}
-use Rattle.machine.specs.Runs.{systemOf}
-use Rattle.sinking.proofs.Walking.{Walk, walk-starts, walk-index, walk-levels, walk-below, walk-goes, walk_none, walk_ends}
+use Rattle.machine.specs.Runs.{system_of}
+use Rattle.sinking.proofs.Walking.{Walk, walk_starts, walk_index, walk_levels, walk_below, walk_goes, walk_none, walk_ends}
 use Rattle.sinking.proofs.rise_level.Statement.{statement}
 use Rattle.sinking.proofs.rise_level.Tie as tie
 
 abbrev invariant-loop : tie.invariant-loop
-invariant-loop image head masks levels₀ held low places listed lacks level from₀ levels from = Walk (systemOf image) level.0 held listed.upto listed.end masks low places levels₀ from levels
+invariant-loop image head masks levels₀ held low places listed lacks level from₀ levels from = Walk (system_of image) level.0 held listed.upto listed.end masks low places levels₀ from levels
 
 abbrev decreases-loop : tie.decreases-loop
 decreases-loop image head masks levels₀ held low places listed lacks level from₀ levels from = held - from
 
 loop-holds : tie.Need-loop-init invariant-loop decreases-loop
-loop-holds c = search (walk-starts, rules)
+loop-holds c = search (walk_starts, rules)
 
 next-at-requires : tie.Need-next-at-requires invariant-loop decreases-loop
-next-at-requires c κs = search (walk-levels, rules)
+next-at-requires c κs = search (walk_levels, rules)
 
 returns : tie.Need-returns invariant-loop decreases-loop
 returns c = search (walk_none, rules)
 
 try-rise-requires : tie.Need-try-rise-requires invariant-loop decreases-loop
-try-rise-requires c κs = (search rules, search rules, search (walk-index, rules), search rules, search (walk-below, rules))
+try-rise-requires c κs = (search rules, search rules, search (walk_index, rules), search rules, search (walk_below, rules))
 
 loop-again : tie.Need-loop-preserved invariant-loop decreases-loop
-loop-again c = search (walk-goes, rules)
+loop-again c = search (walk_goes, rules)
 
 returns-2 : tie.Need-returns-2 invariant-loop decreases-loop
 returns-2 c = search (walk_ends, rules)

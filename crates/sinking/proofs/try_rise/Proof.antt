@@ -1,13 +1,13 @@
-use Rattle.sinking.proofs.Walking.{tries-stay, tries-rise}
+use Rattle.sinking.proofs.Walking.{tries_stay, tries_rise}
 use borrow.Author.Rules.{rules}
 use Rattle.sinking.proofs.try_rise.Statement.{statement}
 use Rattle.sinking.proofs.try_rise.Tie as tie
 
 returns : tie.Need-returns
-returns c = search (tries-stay, rules)
+returns c = search (tries_stay, rules)
 
 returns-2 : tie.Need-returns-2
-returns-2 c = search (tries-rise, rules)
+returns-2 c = search (tries_rise, rules)
 
 pub try-rise-spec : {M : Type 1} → statement M
 try-rise-spec =

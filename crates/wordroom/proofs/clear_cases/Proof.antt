@@ -1,6 +1,6 @@
 use borrow.Author.Rules.{rules}
 use Prim.Native.Nat.{◌-◌}
-use Rattle.wordroom.proofs.Changes.{Clearing, clearing-starts, clearing-next, clearing-ends}
+use Rattle.wordroom.proofs.Changes.{Clearing, clearing_starts, clearing_next, clearing_ends}
 use Rattle.wordroom.proofs.clear_cases.Statement.{statement}
 use Rattle.wordroom.proofs.clear_cases.Tie as tie
 
@@ -11,13 +11,13 @@ abbrev decreases-loop : tie.decreases-loop
 decreases-loop cases₀ count at₀ cases at = count - at
 
 loop-holds : tie.Need-loop-init invariant-loop decreases-loop
-loop-holds c = search (clearing-starts, rules)
+loop-holds c = search (clearing_starts, rules)
 
 loop-again : tie.Need-loop-preserved invariant-loop decreases-loop
-loop-again c = search (clearing-next, rules)
+loop-again c = search (clearing_next, rules)
 
 returns : tie.Need-returns invariant-loop decreases-loop
-returns c = search (clearing-ends, rules)
+returns c = search (clearing_ends, rules)
 
 pub clear-cases-spec : {M : Type 1} → statement M
 clear-cases-spec =

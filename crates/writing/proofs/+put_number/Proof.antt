@@ -4,7 +4,7 @@ use native.Mathlib.Omega.{arith}
 use borrow.Author.Rules.{rules}
 use borrow.Fn.Kinds.{In}
 use borrow.Fn.PlainCycle.{Measures, is, falls, and}
-use Rattle.writing.proofs.Placing.{one-digit-place, one-digit-bytes, last-digit-place, last-digit-near, last-digit-fits, last-digit-bytes}
+use Rattle.writing.proofs.Placing.{one_digit_place, one_digit_bytes, last_digit_place, last_digit_near, last_digit_fits, last_digit_bytes}
 use Rattle.writing.proofs.put_byte.Reads as put_byte
 use Rattle.writing.proofs.put_number.Kinds as kinds
 use Rattle.writing.proofs.put_number.Reads as put-number
@@ -42,7 +42,7 @@ module _ (t : ℕ) where
   same_length c = search rules
 
   returns : lts.Need-returns claims given put-number.Post
-  returns c = (search (one-digit-place, rules), (search rules, search (one-digit-bytes, rules)))
+  returns c = (search (one_digit_place, rules), (search rules, search (one_digit_bytes, rules)))
 
   put-number-requires : lts.Need-put-number-requires claims given put-number.Post
   put-number-requires c κs = (omega arith, search rules)
@@ -57,13 +57,13 @@ module _ (t : ℕ) where
   put-byte-requires-2 c κs = search rules
 
   add-result-2 : lts.Need-overflow-add-result-2 claims given put-number.Post
-  add-result-2 c = search (last-digit-fits, rules)
+  add-result-2 c = search (last_digit_fits, rules)
 
   same-length-2 : lts.Need-same-length-2 claims given put-number.Post
   same-length-2 c = search rules
 
   returns-2 : lts.Need-returns-2 claims given put-number.Post
-  returns-2 c = (search (last-digit-place, rules), (search (last-digit-near, rules), search (last-digit-bytes, rules)))
+  returns-2 c = (search (last_digit_place, rules), (search (last_digit_near, rules), search (last_digit_bytes, rules)))
 
 pub +put-number-spec : {M : Type 1} → statement M
 +put-number-spec =

@@ -1,7 +1,7 @@
 use borrow.Author.Rules.{rules}
 use Prim.Native.Nat.{◌-◌}
 use lib.ListN.{length}
-use Rattle.writing.proofs.LinesPut.{Lining, lining-starts, below-limit, lining-next, lining-near, lining-passed, lining_ends}
+use Rattle.writing.proofs.LinesPut.{Lining, lining_starts, below_limit, lining_next, lining_near, lining_passed, lining_ends}
 use Rattle.writing.proofs.put_line_of_bytes.Statement.{statement}
 use Rattle.writing.proofs.put_line_of_bytes.Tie as tie
 
@@ -12,19 +12,19 @@ abbrev decreases-loop : tie.decreases-loop
 decreases-loop room₀ start limit numbers end₀ i₀ room end i = length numbers - i
 
 loop-holds : tie.Need-loop-init invariant-loop decreases-loop
-loop-holds c = search (lining-starts, rules)
+loop-holds c = search (lining_starts, rules)
 
 returns : tie.Need-returns invariant-loop decreases-loop
-returns c = (search (lining-near, rules), search (lining-passed, rules))
+returns c = (search (lining_near, rules), search (lining_passed, rules))
 
 put-next-byte-requires : tie.Need-put-next-byte-requires invariant-loop decreases-loop
-put-next-byte-requires c κs = search (below-limit, rules)
+put-next-byte-requires c κs = search (below_limit, rules)
 
 loop-again : tie.Need-loop-preserved invariant-loop decreases-loop
-loop-again c = search (lining-next, rules)
+loop-again c = search (lining_next, rules)
 
 returns-2 : tie.Need-returns-2 invariant-loop decreases-loop
-returns-2 c = (search (lining-near, rules), search (lining_ends, rules))
+returns-2 c = (search (lining_near, rules), search (lining_ends, rules))
 
 pub put-line-of-bytes-spec : {M : Type 1} → statement M
 put-line-of-bytes-spec =

@@ -1,6 +1,6 @@
 use Prim.Native.Nat.{◌-◌}
 use Rattle.automata.specs.Walk.{Walking}
-use Rattle.automata.proofs.RowWalks.{three-stand, three-go, first-fills, second-fills, third-fills}
+use Rattle.automata.proofs.RowWalks.{three_stand, three_go, first_fills, second_fills, third_fills}
 use borrow.Author.Rules.{rules}
 use Rattle.automata.proofs.backward.by_threes.Statement.{statement}
 use Rattle.automata.proofs.backward.by_threes.Tie as tie
@@ -12,19 +12,19 @@ abbrev decreases-loop : tie.decreases-loop
 decreases-loop image rows x all last at₀ set₀ at set = rows.end - at
 
 with-three-requires : tie.Need-with-three-requires invariant-loop decreases-loop
-with-three-requires c κs = search (three-stand, rules)
+with-three-requires c κs = search (three_stand, rules)
 
 returns : tie.Need-returns invariant-loop decreases-loop
-returns c = search (first-fills, rules)
+returns c = search (first_fills, rules)
 
 returns-2 : tie.Need-returns-2 invariant-loop decreases-loop
-returns-2 c = search (second-fills, rules)
+returns-2 c = search (second_fills, rules)
 
 returns-3 : tie.Need-returns-3 invariant-loop decreases-loop
-returns-3 c = search (third-fills, rules)
+returns-3 c = search (third_fills, rules)
 
 loop-again : tie.Need-loop-preserved invariant-loop decreases-loop
-loop-again c = search (three-go, rules)
+loop-again c = search (three_go, rules)
 
 pub by-threes-spec : {M : Type 1} → statement M
 by-threes-spec =

@@ -1,10 +1,10 @@
-use Rattle.automata.proofs.Reading.{read-refused, read-valid, head_in}
+use Rattle.automata.proofs.Reading.{read_refused, read_valid, head_in}
 use borrow.Author.Rules.{rules}
 use Rattle.automata.proofs.image.read_image.Statement.{statement}
 use Rattle.automata.proofs.image.read_image.Tie as tie
 
 returns : tie.Need-returns
-returns c = search (read-refused, rules)
+returns c = search (read_refused, rules)
 
 shared-slice-read-states : tie.Need-shared-slice-read-states
 shared-slice-read-states c = search (head_in, rules)
@@ -22,7 +22,7 @@ read8-requires-2 : tie.Need-read8-requires-2
 read8-requires-2 c κs = search (head_in, rules)
 
 returns-2 : tie.Need-returns-2
-returns-2 c = search (read-valid, rules)
+returns-2 c = search (read_valid, rules)
 
 pub read-image-spec : {M : Type 1} → statement M
 read-image-spec =

@@ -1,13 +1,13 @@
-use Rattle.automata.proofs.Checks.{row-state, row-case}
+use Rattle.automata.proofs.Checks.{row_state, row_case}
 use borrow.Author.Rules.{rules}
 use Rattle.automata.proofs.image.row_holds.Statement.{statement}
 use Rattle.automata.proofs.image.row_holds.Tie as tie
 
 returns : tie.Need-returns
-returns c = search (row-state, rules)
+returns c = search (row_state, rules)
 
 returns-2 : tie.Need-returns-2
-returns-2 c = search (row-case, rules)
+returns-2 c = search (row_case, rules)
 
 pub row-holds-spec : {M : Type 1} → statement M
 row-holds-spec =

@@ -1,6 +1,6 @@
 use borrow.Author.Rules.{rules}
 use Prim.Native.Nat.{◌-◌}
-use Rattle.automata.proofs.Checks.{RowsLeft, rows_none, row-fails, row_next, rows_end}
+use Rattle.automata.proofs.Checks.{RowsLeft, rows_none, row_fails, row_next, rows_end}
 use Rattle.automata.proofs.image.rows_hold.Statement.{statement}
 use Rattle.automata.proofs.image.rows_hold.Tie as tie
 
@@ -14,7 +14,7 @@ loop-holds : tie.Need-loop-init invariant-loop decreases-loop
 loop-holds c = search (rows_none, rules)
 
 returns : tie.Need-returns invariant-loop decreases-loop
-returns c = search (row-fails, rules)
+returns c = search (row_fails, rules)
 
 loop-again : tie.Need-loop-preserved invariant-loop decreases-loop
 loop-again c = search (row_next, rules)

@@ -1,5 +1,5 @@
 use borrow.Author.Rules.{rules}
-use Rattle.automata.proofs.WordTests.{TakenFrom, taken_none, last-known, taken_more, taken-end}
+use Rattle.automata.proofs.WordTests.{TakenFrom, taken_none, last_known, taken_more, taken_end}
 use Rattle.automata.proofs.word.taken_back.Statement.{statement}
 use Rattle.automata.proofs.word.taken_back.Tie as tie
 
@@ -13,13 +13,13 @@ loop-holds : tie.Need-loop-init invariant-loop decreases-loop
 loop-holds c = search (taken_none, rules)
 
 backward-requires : tie.Need-backward-requires invariant-loop decreases-loop
-backward-requires c κs = search (last-known, rules)
+backward-requires c κs = search (last_known, rules)
 
 loop-again : tie.Need-loop-preserved invariant-loop decreases-loop
 loop-again c = search (taken_more, rules)
 
 returns : tie.Need-returns invariant-loop decreases-loop
-returns c = search (taken-end, rules)
+returns c = search (taken_end, rules)
 
 pub taken-back-spec : {M : Type 1} → statement M
 taken-back-spec =

@@ -1,4 +1,4 @@
-use Rattle.blockers.proofs.Walks.{Walked, walk_begins, walk-finds, walk-goes, walk_ends}
+use Rattle.blockers.proofs.Walks.{Walked, walk_begins, walk_finds, walk_goes, walk_ends}
 use Prim.Native.Nat.{◌-◌}
 use borrow.Author.Rules.{rules}
 use Rattle.blockers.proofs.reasons.first_covering.Statement.{statement}
@@ -14,10 +14,10 @@ loop-holds : tie.Need-loop-init invariant-loop decreases-loop
 loop-holds c = search (walk_begins, rules)
 
 returns : tie.Need-returns invariant-loop decreases-loop
-returns c = search (walk-finds, rules)
+returns c = search (walk_finds, rules)
 
 loop-again : tie.Need-loop-preserved invariant-loop decreases-loop
-loop-again c = search (walk-goes, rules)
+loop-again c = search (walk_goes, rules)
 
 returns-2 : tie.Need-returns-2 invariant-loop decreases-loop
 returns-2 c = search (walk_ends, rules)

@@ -1,10 +1,10 @@
-use Rattle.blockers.proofs.Walks.{four-cover}
+use Rattle.blockers.proofs.Walks.{four_cover}
 use borrow.Author.Rules.{rules}
 use Rattle.blockers.proofs.reasons.four_cover.Statement.{statement}
 use Rattle.blockers.proofs.reasons.four_cover.Tie as tie
 
 returns : tie.Need-returns
-returns c = search (four-cover, rules)
+returns c = search (four_cover, rules)
 
 pub four-cover-spec : {M : Type 1} → statement M
 four-cover-spec =

@@ -1,6 +1,6 @@
 use borrow.Author.Rules.{rules}
 use Prim.Native.Nat.{◌-◌}
-use Rattle.blockers.proofs.Walks.{Skipping, skip-starts, skip-next, skip-goes, skip-ends}
+use Rattle.blockers.proofs.Walks.{Skipping, skip_starts, skip_next, skip_goes, skip_ends}
 use Rattle.blockers.proofs.reasons.skip.Statement.{statement}
 use Rattle.blockers.proofs.reasons.skip.Tie as tie
 
@@ -11,19 +11,19 @@ abbrev decreases-loop : tie.decreases-loop
 decreases-loop masks levels from level case count i₀ i = count - i
 
 loop-holds : tie.Need-loop-init invariant-loop decreases-loop
-loop-holds c = search (skip-starts, rules)
+loop-holds c = search (skip_starts, rules)
 
 returns : tie.Need-returns invariant-loop decreases-loop
-returns c = search (skip-ends, rules)
+returns c = search (skip_ends, rules)
 
 returns-2 : tie.Need-returns-2 invariant-loop decreases-loop
-returns-2 c = search (skip-next, rules)
+returns-2 c = search (skip_next, rules)
 
 loop-again : tie.Need-loop-preserved invariant-loop decreases-loop
-loop-again c = search (skip-goes, rules)
+loop-again c = search (skip_goes, rules)
 
 returns-3 : tie.Need-returns-3 invariant-loop decreases-loop
-returns-3 c = search (skip-ends, rules)
+returns-3 c = search (skip_ends, rules)
 
 pub skip-spec : {M : Type 1} → statement M
 skip-spec =

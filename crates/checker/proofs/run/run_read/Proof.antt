@@ -1,4 +1,4 @@
-use Rattle.checker.proofs.Going.{run-ready, run_ends}
+use Rattle.checker.proofs.Going.{run_ready, run_ends}
 use borrow.Author.Rules.{rules}
 use Rattle.checker.proofs.run.run_read.Statement.{statement}
 use Rattle.checker.proofs.run.run_read.Tie as tie
@@ -9,7 +9,7 @@ begun-of c = search
 
 go-on-requires : tie.Need-go-on-requires
 unfolding begun-of
-go-on-requires c κs = (search rules, run-ready _ _ _ _ 0 _ _ (begun-of c).before.begin-read.ensures)
+go-on-requires c κs = (search rules, run_ready _ _ _ _ 0 _ _ (begun-of c).before.begin-read.ensures)
 
 returns : tie.Need-returns
 returns c = search (run_ends, rules)

@@ -1,4 +1,4 @@
-use Rattle.checker.proofs.Calling.{step-refuses-terms, step-breaks, fits-run, step-ready, step-goes}
+use Rattle.checker.proofs.Calling.{step_refuses_terms, step_breaks, fits_run, step_ready, step_goes}
 use borrow.Author.Rules.{rules}
 use Rattle.checker.proofs.step.step_read.Statement.{statement}
 use Rattle.checker.proofs.step.step_read.Tie as tie
@@ -11,23 +11,23 @@ start_of : tie.After-broken → tie.Start
 start_of c = search
 
 returns : tie.Need-returns
-returns c = search (step-refuses-terms, rules)
+returns c = search (step_refuses_terms, rules)
 
 returns-2 : tie.Need-returns-2
 returns-2 c =
     let asked : tie.After-broken = search in
     let start : tie.Start = search in
-    search (step-breaks, start.pre, asked.before.before.check-terms.ensures, asked.before.if1.left, asked.broken.ensures, c.if2.true)
+    search (step_breaks, start.pre, asked.before.before.check-terms.ensures, asked.before.if1.left, asked.broken.ensures, c.if2.true)
 
 to-run-requires : tie.Need-to-run-requires
 to-run-requires c κs =
-    fits-run _ _ _ _ _ _ _ c.before.before.before.check-terms.ensures c.before.before.if1.false _ c.before.broken.ensures c.if2.false
+    fits_run _ _ _ _ _ _ _ c.before.before.before.check-terms.ensures c.before.before.if1.false _ c.before.broken.ensures c.if2.false
 
 go-on-requires : tie.Need-go-on-requires
 unfolding asked_of
 go-on-requires c κs = (
   search rules,
-  step-ready _ _ _ _ _ _ _ (asked_of c).before.before.check-terms.ensures (asked_of c).before.if1.false _ (asked_of c).broken.ensures
+  step_ready _ _ _ _ _ _ _ (asked_of c).before.before.check-terms.ensures (asked_of c).before.if1.false _ (asked_of c).broken.ensures
       (search rules) _ (search rules),
 )
 
@@ -39,7 +39,7 @@ returns-3 c =
     let asked : tie.After-broken = search in
     let start = start_of asked in
     search (
-      step-goes,
+      step_goes,
       start.pre,
       asked.before.before.check-terms.ensures,
       asked.before.if1.left,

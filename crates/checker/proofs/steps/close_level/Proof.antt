@@ -1,10 +1,10 @@
-use Rattle.checker.proofs.Closing.{close-leaves}
+use Rattle.checker.proofs.Closing.{close_leaves}
 use borrow.Author.Rules.{rules}
 use Rattle.checker.proofs.steps.close_level.Statement.{statement}
 use Rattle.checker.proofs.steps.close_level.Tie as tie
 
 returns : tie.Need-returns
-returns c = search (close-leaves, rules)
+returns c = search (close_leaves, rules)
 
 pub close-level-spec : {M : Type 1} → statement M
 close-level-spec =

@@ -1,5 +1,5 @@
-use Rattle.checker.proofs.Stages.{ready-word}
-use Rattle.checker.proofs.Blocking.{block-full, block-holds, block_held}
+use Rattle.checker.proofs.Stages.{ready_word}
+use Rattle.checker.proofs.Blocking.{block_full, block_holds, block_held}
 use borrow.Author.Rules.{rules}
 use Rattle.checker.proofs.steps.enter_chosen.Statement.{statement}
 use Rattle.checker.proofs.steps.enter_chosen.Tie as tie
@@ -20,10 +20,10 @@ start_of c = search
 returns : tie.Need-returns
 unfolding full-of start_of
 returns c =
-    block-full _ _ (start_of (full-of c)).requires.0 _ _ (search rules) (full-of c).enter.ensures (search rules) (search rules)
+    block_full _ _ (start_of (full-of c)).requires.0 _ _ (search rules) (full-of c).enter.ensures (search rules) (search rules)
 
 unpend-requires : tie.Need-unpend-requires
-unpend-requires c κs = (search (block-holds, rules), search (ready-word, rules), search rules, search rules)
+unpend-requires c κs = (search (block_holds, rules), search (ready_word, rules), search rules, search rules)
 
 returns-2 : tie.Need-returns-2
 unfolding held_of answer-of start_of

@@ -1,13 +1,13 @@
-use Rattle.checker.proofs.Stages.{final-blocked, final-free}
+use Rattle.checker.proofs.Stages.{final_blocked, final_free}
 use borrow.Author.Rules.{rules}
 use Rattle.checker.proofs.steps.pend_final.Statement.{statement}
 use Rattle.checker.proofs.steps.pend_final.Tie as tie
 
 returns : tie.Need-returns
-returns c = search (final-blocked, rules)
+returns c = search (final_blocked, rules)
 
 returns-2 : tie.Need-returns-2
-returns-2 c = search (final-free, rules)
+returns-2 c = search (final_free, rules)
 
 pub pend-final-spec : {M : Type 1} → statement M
 pend-final-spec =

@@ -1,17 +1,17 @@
 use mathlib.Core.Path.{refl}
 use Rattle.lists.specs.Tests.{neg, ◌or◌}
 use Rattle.lists.specs.Lists.{any}
-use Rattle.closing.proofs.Vacant.{marks-none, lowest-marked}
+use Rattle.closing.proofs.Vacant.{marks_none, lowest_marked}
 use borrow.Author.Rules.{rules}
 use Rattle.closing.proofs.vacancy.lowest_none.Statement.{statement}
 use Rattle.closing.proofs.vacancy.lowest_none.Tie as tie
 
 mark-requires : tie.Need-mark-requires
 unfolding any neg ◌or◌
-mark-requires c κs = marks-none _ refl
+mark-requires c κs = marks_none _ refl
 
 returns : tie.Need-returns
-returns c = lowest-marked c.before.before.before.mark.ensures (search rules) c.lowest-unmarked.ensures
+returns c = lowest_marked c.before.before.before.mark.ensures (search rules) c.lowest-unmarked.ensures
 
 pub lowest-none-spec : {M : Type 1} → statement M
 lowest-none-spec =

@@ -1,7 +1,7 @@
 use borrow.Author.Rules.{rules}
 use Prim.Native.Nat.{◌-◌}
 use lib.ListN.{length}
-use Rattle.closing.proofs.Vacant.{Marking, marking-starts, marking-passes, marking-marks, marking-ends}
+use Rattle.closing.proofs.Vacant.{Marking, marking_starts, marking_passes, marking_marks, marking_ends}
 use Rattle.closing.proofs.vacancy.mark.Statement.{statement}
 use Rattle.closing.proofs.vacancy.mark.Tie as tie
 
@@ -12,16 +12,16 @@ abbrev decreases-loop : tie.decreases-loop
 decreases-loop levels marks₀ i₀ marks i = length levels - i
 
 loop-holds : tie.Need-loop-init invariant-loop decreases-loop
-loop-holds c = search (marking-starts, rules)
+loop-holds c = search (marking_starts, rules)
 
 loop-again : tie.Need-loop-preserved invariant-loop decreases-loop
-loop-again c = search (marking-passes, rules)
+loop-again c = search (marking_passes, rules)
 
 loop-again-2 : tie.Need-loop-preserved-2 invariant-loop decreases-loop
-loop-again-2 c = search (marking-marks, rules)
+loop-again-2 c = search (marking_marks, rules)
 
 returns : tie.Need-returns invariant-loop decreases-loop
-returns c = search (marking-ends, rules)
+returns c = search (marking_ends, rules)
 
 pub mark_spec : {M : Type 1} → statement M
 mark_spec =

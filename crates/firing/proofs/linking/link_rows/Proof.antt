@@ -1,6 +1,6 @@
 use borrow.Author.Rules.{rules}
 use Prim.Native.Nat.{◌-◌}
-use Rattle.firing.proofs.Chaining.{RowsLinking, rows_start, rows-known, rows-go, rows_all}
+use Rattle.firing.proofs.Chaining.{RowsLinking, rows_start, rows_known, rows_go, rows_all}
 use Rattle.firing.proofs.linking.link_rows.Statement.{statement}
 use Rattle.firing.proofs.linking.link_rows.Tie as tie
 
@@ -14,10 +14,10 @@ loop-holds : tie.Need-loop-init invariant-loop decreases-loop
 loop-holds c = search (rows_start, rules)
 
 link-symbol-requires : tie.Need-link-symbol-requires invariant-loop decreases-loop
-link-symbol-requires c κs = search (rows-known, rules)
+link-symbol-requires c κs = search (rows_known, rules)
 
 loop-again : tie.Need-loop-preserved invariant-loop decreases-loop
-loop-again c = search (rows-go, rules)
+loop-again c = search (rows_go, rules)
 
 returns : tie.Need-returns invariant-loop decreases-loop
 returns c = search (rows_all, rules)

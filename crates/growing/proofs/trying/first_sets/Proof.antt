@@ -1,26 +1,26 @@
 use borrow.Author.Rules.{rules}
 use Prim.Native.Nat.{◌-◌}
-use Rattle.machine.specs.Lent.{blockersIn}
+use Rattle.machine.specs.Lent.{blockers_in}
 use Rattle.lists.proofs.Tests.{holds}
-use Rattle.growing.proofs.Begins.{FirstSets, first-starts, first-known, first_ends, first-told, first_goes}
+use Rattle.growing.proofs.Begins.{FirstSets, first_starts, first_known, first_ends, first_told, first_goes}
 use Rattle.growing.proofs.trying.first_sets.Statement.{statement}
 use Rattle.growing.proofs.trying.first_sets.Tie as tie
 
 abbrev invariant-loop : tie.invariant-loop
 invariant-loop image head masks levels below x sets₀ near₀ ends₀ count₀ symbol₀ sets near ends count symbol =
-    FirstSets image (blockersIn masks levels) below.0 x head.symbols symbol.0 count sets₀ near₀ ends₀ sets near ends
+    FirstSets image (blockers_in masks levels) below.0 x head.symbols symbol.0 count sets₀ near₀ ends₀ sets near ends
 
 abbrev decreases-loop : tie.decreases-loop
 decreases-loop image head masks levels below x sets₀ near₀ ends₀ count₀ symbol₀ sets near ends count symbol = head.symbols - symbol.0
 
 loop-holds : tie.Need-loop-init invariant-loop decreases-loop
-loop-holds c = search (first-starts, rules)
+loop-holds c = search (first_starts, rules)
 
 backward-requires : tie.Need-backward-requires invariant-loop decreases-loop
-backward-requires c κs = search (first-known, rules)
+backward-requires c κs = search (first_known, rules)
 
 is-settled-requires : tie.Need-is-settled-requires invariant-loop decreases-loop
-is-settled-requires c κs = search (first-told, rules)
+is-settled-requires c κs = search (first_told, rules)
 
 returns : tie.Need-returns invariant-loop decreases-loop
 returns c = λ e. absurd (holds e)

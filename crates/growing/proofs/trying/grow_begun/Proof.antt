@@ -1,10 +1,10 @@
-use Rattle.automata.proofs.Reading.{rows-below}
+use Rattle.automata.proofs.Reading.{rows_below}
 use borrow.Author.Rules.{rules}
 use Rattle.growing.proofs.trying.grow_begun.Statement.{statement}
 use Rattle.growing.proofs.trying.grow_begun.Tie as tie
 
 grow-short-requires : tie.Need-grow-short-requires
-grow-short-requires c κs = (search rules, search (rows-below, rules), search rules, search rules, search rules)
+grow-short-requires c κs = (search rules, search (rows_below, rules), search rules, search rules, search rules)
 
 pub grow-begun-spec : {M : Type 1} → statement M
 grow-begun-spec =

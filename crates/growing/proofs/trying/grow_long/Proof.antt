@@ -1,10 +1,10 @@
-use Rattle.growing.proofs.Begins.{long-linked}
+use Rattle.growing.proofs.Begins.{long_linked}
 use borrow.Author.Rules.{rules}
 use Rattle.growing.proofs.trying.grow_long.Statement.{statement}
 use Rattle.growing.proofs.trying.grow_long.Tie as tie
 
 grow-in-requires : tie.Need-grow-in-requires
-grow-in-requires c κs = (search rules, search (long-linked, rules), search rules, search rules, search rules)
+grow-in-requires c κs = (search rules, search (long_linked, rules), search rules, search rules, search rules)
 
 pub grow-long-spec : {M : Type 1} → statement M
 grow-long-spec =

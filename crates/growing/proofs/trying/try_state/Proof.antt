@@ -1,23 +1,23 @@
 use borrow.Author.Rules.{rules}
-use Rattle.passing.proofs.States.{state-few, state-there, state-kept, state-left}
-use Rattle.growing.proofs.Tries.{state-tried, copies-sets, copies-next, grows-on, grows_same, grows}
+use Rattle.passing.proofs.States.{state_few, state_there, state_kept, state_left}
+use Rattle.growing.proofs.Tries.{state_tried, copies_sets, copies_next, grows_on, grows_same, grows}
 use Rattle.growing.proofs.trying.try_state.Statement.{statement}
 use Rattle.growing.proofs.trying.try_state.Tie as tie
 
 member-requires : tie.Need-member-requires
-member-requires c κs = search (state-few, rules)
+member-requires c κs = search (state_few, rules)
 
 returns : tie.Need-returns
-returns c = (search (state-there, rules), search (grows_same, rules))
+returns c = (search (state_there, rules), search (grows_same, rules))
 
 insert-requires : tie.Need-insert-requires
-insert-requires c κs = search (state-few, rules)
+insert-requires c κs = search (state_few, rules)
 
 keeps-requires : tie.Need-keeps-requires
-keeps-requires c κs = (search rules, search rules, search rules, search (state-tried, rules))
+keeps-requires c κs = (search rules, search rules, search rules, search (state_tried, rules))
 
 copy-requires : tie.Need-copy-requires
-copy-requires c κs = (search (copies-next, rules), search (copies-sets, rules))
+copy-requires c κs = (search (copies_next, rules), search (copies_sets, rules))
 
 -- the places of the code before the return with the state: the call of keeps, that of member, the start
 keeps-of : tie.After-slice-known4 → tie.After-keeps
@@ -41,18 +41,18 @@ start_of c = search
 returns-2 : tie.Need-returns-2
 unfolding keeps-of next_of count_of insert-of member_of start_of
 returns-2 c = (
-  search (state-kept, rules),
+  search (state_kept, rules),
   let kept = keeps-of c in
       let put = insert-of kept in
       let tested = member_of put in
       let pre = (start_of tested).pre in
-      let trying = state-tried pre.2.states pre.3 _ tested.member.ensures (search rules) _ put.insert.ensures in
+      let trying = state_tried pre.2.states pre.3 _ tested.member.ensures (search rules) _ put.insert.ensures in
       grows pre.2 trying pre.0 _ _ _ _ kept.keeps.ensures.0 kept.keeps.ensures.1 (search rules) (count_of c).place_of.ensures (search rules) (search rules)
       (next_of c).next.given,
 )
 
 returns-3 : tie.Need-returns-3
-returns-3 c = (search (state-left, rules), search (grows-on, rules))
+returns-3 c = (search (state_left, rules), search (grows_on, rules))
 
 pub try-state-spec : {M : Type 1} → statement M
 try-state-spec =

@@ -1,5 +1,5 @@
-use Rattle.hitting.proofs.Linking.{Looking, looking-starts, told-linked, looking-nearer, looking-ends}
-use Rattle.hitting.proofs.Gathers.{place_in, is_found, look-on}
+use Rattle.hitting.proofs.Linking.{Looking, looking_starts, told_linked, looking_nearer, looking_ends}
+use Rattle.hitting.proofs.Gathers.{place_in, is_found, look_on}
 use lib.ListN.{take}
 use borrow.Author.Rules.{rules}
 use Rattle.hitting.proofs.gathering.is_there.Statement.{statement}
@@ -12,7 +12,7 @@ abbrev decreases-loop : tie.decreases-loop
 decreases-loop sets slots links count set number₀ number = number
 
 loop-holds : tie.Need-loop-init invariant-loop decreases-loop
-loop-holds c = search (looking-starts, rules)
+loop-holds c = search (looking_starts, rules)
 
 mul-if1 : tie.Need-overflow-mul-if1 invariant-loop decreases-loop
 mul-if1 c = search (place_in, rules)
@@ -24,16 +24,16 @@ returns : tie.Need-returns invariant-loop decreases-loop
 returns c = search (is_found, rules)
 
 told-requires : tie.Need-told-requires invariant-loop decreases-loop
-told-requires c κs = search (told-linked, rules)
+told-requires c κs = search (told_linked, rules)
 
 loop-less : tie.Need-loop-smaller invariant-loop decreases-loop
-loop-less c = search (looking-nearer, rules)
+loop-less c = search (looking_nearer, rules)
 
 loop-again : tie.Need-loop-preserved invariant-loop decreases-loop
-loop-again c = search (look-on, rules)
+loop-again c = search (look_on, rules)
 
 returns-2 : tie.Need-returns-2 invariant-loop decreases-loop
-returns-2 c = search (looking-ends, rules)
+returns-2 c = search (looking_ends, rules)
 
 pub is-there-spec : {M : Type 1} → statement M
 is-there-spec =

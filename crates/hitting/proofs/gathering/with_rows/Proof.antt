@@ -1,5 +1,5 @@
 use Prim.Native.Nat.{◌-◌}
-use Rattle.hitting.proofs.Gathers.{RowsGathered, rows_start, row-stands, next-room, rows-go, rows_end}
+use Rattle.hitting.proofs.Gathers.{RowsGathered, rows_start, row_stands, next_room, rows_go, rows_end}
 use borrow.Author.Rules.{rules}
 use Rattle.hitting.proofs.gathering.with_rows.Statement.{statement}
 use Rattle.hitting.proofs.gathering.with_rows.Tie as tie
@@ -14,10 +14,10 @@ loop-holds : tie.Need-loop-init invariant-loop decreases-loop
 loop-holds c = search (rows_start, rules)
 
 with-row-requires : tie.Need-with-row-requires invariant-loop decreases-loop
-with-row-requires c κs = search (row-stands, next-room, rules)
+with-row-requires c κs = search (row_stands, next_room, rules)
 
 loop-again : tie.Need-loop-preserved invariant-loop decreases-loop
-loop-again c = search (rows-go, rules)
+loop-again c = search (rows_go, rules)
 
 returns : tie.Need-returns invariant-loop decreases-loop
 returns c = search (rows_end, rules)

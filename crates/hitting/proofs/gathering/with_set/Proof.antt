@@ -1,22 +1,22 @@
-use Rattle.hitting.proofs.Gathers.{set-empty, set-among, set-place, place-linked, place-fits, set-enters}
+use Rattle.hitting.proofs.Gathers.{set_empty, set_among, set_place, place_linked, place_fits, set_enters}
 use borrow.Author.Rules.{rules}
 use Rattle.hitting.proofs.gathering.with_set.Statement.{statement}
 use Rattle.hitting.proofs.gathering.with_set.Tie as tie
 
 returns : tie.Need-returns
-returns c = search (set-empty, rules)
+returns c = search (set_empty, rules)
 
 returns-2 : tie.Need-returns-2
-returns-2 c = search (set-among, rules)
+returns-2 c = search (set_among, rules)
 
 slice-write-sets : tie.Need-slice-write-sets
-slice-write-sets c = search (set-place, rules)
+slice-write-sets c = search (set_place, rules)
 
 link-requires : tie.Need-link-requires
-link-requires c κs = search (place-linked, place-fits, rules)
+link-requires c κs = search (place_linked, place_fits, rules)
 
 returns-3 : tie.Need-returns-3
-returns-3 c = search (set-enters, rules)
+returns-3 c = search (set_enters, rules)
 
 pub with-set-spec : {M : Type 1} → statement M
 with-set-spec =

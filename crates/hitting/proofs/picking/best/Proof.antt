@@ -1,13 +1,13 @@
-use Rattle.hitting.proofs.Planes.{some-highest, lowest-highest}
+use Rattle.hitting.proofs.Planes.{some_highest, lowest_highest}
 use borrow.Author.Rules.{rules}
 use Rattle.hitting.proofs.picking.best.Statement.{statement}
 use Rattle.hitting.proofs.picking.best.Tie as tie
 
 lowest-absent-requires : tie.Need-lowest-absent-requires
-lowest-absent-requires c κs = search (some-highest, rules)
+lowest-absent-requires c κs = search (some_highest, rules)
 
 returns : tie.Need-returns
-returns c = search (lowest-highest, rules)
+returns c = search (lowest_highest, rules)
 
 pub best-spec : {M : Type 1} → statement M
 best-spec =

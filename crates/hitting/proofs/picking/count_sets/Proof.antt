@@ -1,5 +1,5 @@
 use Prim.Native.Nat.{◌-◌}
-use Rattle.hitting.proofs.Planes.{CountingSets, counts_start, counts-go, counts_end}
+use Rattle.hitting.proofs.Planes.{CountingSets, counts_start, counts_go, counts_end}
 use borrow.Author.Rules.{rules}
 use Rattle.hitting.proofs.picking.count_sets.Statement.{statement}
 use Rattle.hitting.proofs.picking.count_sets.Tie as tie
@@ -14,7 +14,7 @@ loop-holds : tie.Need-loop-init invariant-loop decreases-loop
 loop-holds c = search (counts_start, rules)
 
 loop-again : tie.Need-loop-preserved invariant-loop decreases-loop
-loop-again c = search (counts-go, rules)
+loop-again c = search (counts_go, rules)
 
 returns : tie.Need-returns invariant-loop decreases-loop
 returns c = search (counts_end, rules)

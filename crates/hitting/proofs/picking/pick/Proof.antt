@@ -1,5 +1,5 @@
 use Prim.Native.Nat.{◌-◌}
-use Rattle.hitting.proofs.Picks.{Picking, picks_start, picks_done, picks-go, picks-end}
+use Rattle.hitting.proofs.Picks.{Picking, picks_start, picks_done, picks_go, picks_end}
 use borrow.Author.Rules.{rules}
 use Rattle.hitting.proofs.picking.pick.Statement.{statement}
 use Rattle.hitting.proofs.picking.pick.Tie as tie
@@ -17,10 +17,10 @@ returns : tie.Need-returns invariant-loop decreases-loop
 returns c = search (picks_done, rules)
 
 loop-again : tie.Need-loop-preserved invariant-loop decreases-loop
-loop-again c = search (picks-go, rules)
+loop-again c = search (picks_go, rules)
 
 returns-2 : tie.Need-returns-2 invariant-loop decreases-loop
-returns-2 c = search (picks-end, rules)
+returns-2 c = search (picks_end, rules)
 
 pub pick_spec : {M : Type 1} → statement M
 pick_spec =

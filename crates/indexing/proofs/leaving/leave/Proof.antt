@@ -1,6 +1,6 @@
 use borrow.Author.Rules.{rules}
 use Prim.Native.Nat.{◌-◌}
-use Rattle.indexing.proofs.Leavers.{Leaving, leave-starts, leave-goes, leave_ends}
+use Rattle.indexing.proofs.Leavers.{Leaving, leave_starts, leave_goes, leave_ends}
 use Rattle.indexing.proofs.leaving.leave.Statement.{statement}
 use Rattle.indexing.proofs.leaving.leave.Tie as tie
 
@@ -11,10 +11,10 @@ abbrev decreases-loop : tie.decreases-loop
 decreases-loop masks levels₀ lacks held mask level i₀ levels i = held - i
 
 loop-holds : tie.Need-loop-init invariant-loop decreases-loop
-loop-holds c = search (leave-starts, rules)
+loop-holds c = search (leave_starts, rules)
 
 loop-again : tie.Need-loop-preserved invariant-loop decreases-loop
-loop-again c = search (leave-goes, rules)
+loop-again c = search (leave_goes, rules)
 
 returns : tie.Need-returns invariant-loop decreases-loop
 returns c = search (leave_ends, rules)

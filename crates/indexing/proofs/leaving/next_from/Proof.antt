@@ -2,7 +2,7 @@ use borrow.Author.Rules.{rules}
 use Prim.Native.Nat.{◌-◌}
 use Rattle.masks.specs.Sets.{subset}
 use Rattle.indexing.specs.Index.{Passed}
-use Rattle.indexing.proofs.Finding.{passes_none, passes-one, finds-next, finds-none}
+use Rattle.indexing.proofs.Finding.{passes_none, passes_one, finds_next, finds_none}
 use Rattle.indexing.proofs.leaving.next_from.Statement.{statement}
 use Rattle.indexing.proofs.leaving.next_from.Tie as tie
 
@@ -16,13 +16,13 @@ loop-holds : tie.Need-loop-init invariant-loop decreases-loop
 loop-holds c = search (passes_none, rules)
 
 returns : tie.Need-returns invariant-loop decreases-loop
-returns c = search (finds-next, rules)
+returns c = search (finds_next, rules)
 
 loop-again : tie.Need-loop-preserved invariant-loop decreases-loop
-loop-again c = search (passes-one, rules)
+loop-again c = search (passes_one, rules)
 
 returns-2 : tie.Need-returns-2 invariant-loop decreases-loop
-returns-2 c = search (finds-none, rules)
+returns-2 c = search (finds_none, rules)
 
 pub next-from-spec : {M : Type 1} → statement M
 next-from-spec =

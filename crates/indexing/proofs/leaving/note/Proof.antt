@@ -1,6 +1,6 @@
 use borrow.Author.Rules.{rules}
 use Prim.Native.Nat.{◌-◌}
-use Rattle.indexing.proofs.Lacking.{Noting, note-starts, note-goes, note-full, note-ends}
+use Rattle.indexing.proofs.Lacking.{Noting, note_starts, note_goes, note_full, note_ends}
 use Rattle.indexing.proofs.leaving.note.Statement.{statement}
 use Rattle.indexing.proofs.leaving.note.Tie as tie
 
@@ -11,16 +11,16 @@ abbrev decreases-loop : tie.decreases-loop
 decreases-loop masks held lacks₀ i₀ lacks i = held - i
 
 loop-holds : tie.Need-loop-init invariant-loop decreases-loop
-loop-holds c = note-starts
+loop-holds c = note_starts
 
 returns : tie.Need-returns invariant-loop decreases-loop
-returns c = search (note-full, rules)
+returns c = search (note_full, rules)
 
 loop-again : tie.Need-loop-preserved invariant-loop decreases-loop
-loop-again c = search (note-goes, rules)
+loop-again c = search (note_goes, rules)
 
 returns-2 : tie.Need-returns-2 invariant-loop decreases-loop
-returns-2 c = search (note-ends, rules)
+returns-2 c = search (note_ends, rules)
 
 pub note-spec : {M : Type 1} → statement M
 note-spec =

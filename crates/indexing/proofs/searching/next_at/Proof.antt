@@ -1,7 +1,7 @@
 use borrow.Author.Rules.{rules}
 use Prim.Native.Nat.{◌-◌}
 use lib.Dec.{eqb}
-use Rattle.indexing.proofs.Finding.{passes-one, finds-next, finds-none}
+use Rattle.indexing.proofs.Finding.{passes_one, finds_next, finds_none}
 use Rattle.indexing.specs.Index.{Passed}
 use Rattle.indexing.proofs.searching.next_at.Statement.{statement}
 use Rattle.indexing.proofs.searching.next_at.Tie as tie
@@ -13,13 +13,13 @@ abbrev decreases-loop : tie.decreases-loop
 decreases-loop levels from to level i₀ i = to - i
 
 returns : tie.Need-returns invariant-loop decreases-loop
-returns c = search (finds-next, rules)
+returns c = search (finds_next, rules)
 
 loop-again : tie.Need-loop-preserved invariant-loop decreases-loop
-loop-again c = search (passes-one, rules)
+loop-again c = search (passes_one, rules)
 
 returns-2 : tie.Need-returns-2 invariant-loop decreases-loop
-returns-2 c = search (finds-none, rules)
+returns-2 c = search (finds_none, rules)
 
 pub next-at-spec : {M : Type 1} → statement M
 next-at-spec =

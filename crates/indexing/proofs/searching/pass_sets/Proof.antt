@@ -2,7 +2,7 @@ use borrow.Author.Rules.{rules}
 use Prim.Native.Nat.{◌-◌}
 use lib.ListN.{length}
 use Rattle.masks.specs.Sets.{subset}
-use Rattle.indexing.proofs.Finding.{passes-begin, passes-to, passes-all, passes-block}
+use Rattle.indexing.proofs.Finding.{passes_begin, passes_to, passes_all, passes_block}
 use Rattle.indexing.specs.Index.{Passed}
 use Rattle.indexing.proofs.searching.pass_sets.Statement.{statement}
 use Rattle.indexing.proofs.searching.pass_sets.Tie as tie
@@ -14,19 +14,19 @@ abbrev decreases-loop : tie.decreases-loop
 decreases-loop low from to set i₀ i = to - i
 
 loop-holds : tie.Need-loop-init invariant-loop decreases-loop
-loop-holds c = search (passes-begin, rules)
+loop-holds c = search (passes_begin, rules)
 
 returns : tie.Need-returns invariant-loop decreases-loop
-returns c = search (passes-to, rules)
+returns c = search (passes_to, rules)
 
 returns-2 : tie.Need-returns-2 invariant-loop decreases-loop
-returns-2 c = search (passes-to, rules)
+returns-2 c = search (passes_to, rules)
 
 loop-again : tie.Need-loop-preserved invariant-loop decreases-loop
-loop-again c = search (passes-block, rules)
+loop-again c = search (passes_block, rules)
 
 returns-3 : tie.Need-returns-3 invariant-loop decreases-loop
-returns-3 c = search (passes-all, rules)
+returns-3 c = search (passes_all, rules)
 
 pub pass-sets-spec : {M : Type 1} → statement M
 pass-sets-spec =

@@ -5,8 +5,8 @@ use borrow.Fn.Kinds.{In}
 use borrow.Fn.PlainCycle.{Measures, is, falls, and}
 use lib.ListN.{length}
 use Rattle.automata.proofs.word.taken_back.Reads as taken_back
-use Rattle.printing.proofs.SetsBehind.{first_part, last-part, half-long, first-shorter, last-shorter}
-use Rattle.printing.proofs.Lines.{word-put, halves-put}
+use Rattle.printing.proofs.SetsBehind.{first_part, last_part, half_long, first_shorter, last_shorter}
+use Rattle.printing.proofs.Lines.{word_put, halves_put}
 use Rattle.printing.proofs.steps.fill.Reads as fill
 use Rattle.printing.proofs.steps.step_through.Reads as step_Through
 use Rattle.printing.proofs.print.put_lines.Reads as put-lines
@@ -46,7 +46,7 @@ module _ (t : ℕ) where
   same-length-2 c = search rules
 
   returns : lts.Need-returns claims given put-events.Post
-  returns c = search (word-put, rules)
+  returns c = search (word_put, rules)
 
   sub-taken-back : lts.Need-overflow-sub-taken-back claims given put-events.Post
   sub-taken-back c = search rules
@@ -58,13 +58,13 @@ module _ (t : ℕ) where
   part-taken-back-end c = search rules
 
   taken-back-requires : lts.Need-taken-back-requires claims given put-events.Post
-  taken-back-requires c κs = search (last-part, rules)
+  taken-back-requires c κs = search (last_part, rules)
 
   slice-aggregate-put-events : lts.Need-slice-aggregate-put-events claims given put-events.Post
-  slice-aggregate-put-events c = search (half-long, rules)
+  slice-aggregate-put-events c = search (half_long, rules)
 
   put-events-requires : lts.Need-put-events-requires claims given put-events.Post
-  put-events-requires c κs = (search (first-shorter, rules), search (first_part, rules))
+  put-events-requires c κs = (search (first_shorter, rules), search (first_part, rules))
 
   sub-put-events : lts.Need-overflow-sub-put-events claims given put-events.Post
   sub-put-events c = search rules
@@ -76,7 +76,7 @@ module _ (t : ℕ) where
   part-put-events-end c = search rules
 
   put-events-requires-2 : lts.Need-put-events-requires-2 claims given put-events.Post
-  put-events-requires-2 c κs = (search (last-shorter, rules), (search (last-part, rules), search rules, search rules))
+  put-events-requires-2 c κs = (search (last_shorter, rules), (search (last_part, rules), search rules, search rules))
 
   same-length-3 : lts.Need-same-length-3 claims given put-events.Post
   same-length-3 c = search rules
@@ -85,7 +85,7 @@ module _ (t : ℕ) where
   same-length-4 c = search rules
 
   returns-2 : lts.Need-returns-2 claims given put-events.Post
-  returns-2 c = search (halves-put, rules)
+  returns-2 c = search (halves_put, rules)
 
 pub +put-events-spec : {M : Type 1} → statement M
 +put-events-spec =

@@ -1,16 +1,16 @@
-use Rattle.writing.proofs.LinesPut.{counted-short, counted-fits}
+use Rattle.writing.proofs.LinesPut.{counted_short, counted_fits}
 use borrow.Author.Rules.{rules}
 use Rattle.printing.proofs.print.print_accepted.Statement.{statement}
 use Rattle.printing.proofs.print.print_accepted.Tie as tie
 
 returns : tie.Need-returns
-returns c = search (counted-short, rules)
+returns c = search (counted_short, rules)
 
 put-run-requires-2 : tie.Need-put-run-requires-2
 put-run-requires-2 c κs = (search rules, search rules, search rules, search rules, search rules)
 
 returns-2 : tie.Need-returns-2
-returns-2 c = search (counted-fits, rules)
+returns-2 c = search (counted_fits, rules)
 
 pub print-accepted-spec : {M : Type 1} → statement M
 print-accepted-spec =

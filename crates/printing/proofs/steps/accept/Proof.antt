@@ -1,16 +1,16 @@
-use Rattle.printing.proofs.Stepping.{accept-tested, accept-not, accept-yes, ready-short, ready-not, ready-stepped}
+use Rattle.printing.proofs.Stepping.{accept_tested, accept_not, accept_yes, ready_short, ready_not, ready_stepped}
 use borrow.Author.Rules.{rules}
 use Rattle.printing.proofs.steps.accept.Statement.{statement}
 use Rattle.printing.proofs.steps.accept.Tie as tie
 
 returns : tie.Need-returns
-returns c = (search (accept-tested, rules), search (ready-short, rules))
+returns c = (search (accept_tested, rules), search (ready_short, rules))
 
 returns-2 : tie.Need-returns-2
-returns-2 c = (search (accept-not, rules), search (ready-not, rules))
+returns-2 c = (search (accept_not, rules), search (ready_not, rules))
 
 returns-3 : tie.Need-returns-3
-returns-3 c = (search (accept-yes, rules), search (ready-stepped, rules))
+returns-3 c = (search (accept_yes, rules), search (ready_stepped, rules))
 
 pub accept-spec : {M : Type 1} → statement M
 accept-spec =

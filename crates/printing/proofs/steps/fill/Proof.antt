@@ -1,5 +1,5 @@
 use borrow.Author.Rules.{rules}
-use Rattle.printing.proofs.SetsBehind.{Filling, filling-starts, filling-place, filling-known, filling-next, filling-long, filled-back, filled-table}
+use Rattle.printing.proofs.SetsBehind.{Filling, filling_starts, filling_place, filling_known, filling_next, filling_long, filled_back, filled_table}
 use Rattle.printing.proofs.steps.fill.Statement.{statement}
 use Rattle.printing.proofs.steps.fill.Tie as tie
 
@@ -10,22 +10,22 @@ abbrev decreases-loop : tie.decreases-loop
 decreases-loop image word z table₀ case₀ i₀ table case i = i
 
 loop-holds : tie.Need-loop-init invariant-loop decreases-loop
-loop-holds c = search (filling-starts, rules)
+loop-holds c = search (filling_starts, rules)
 
 slice-write-table : tie.Need-slice-write-table invariant-loop decreases-loop
-slice-write-table c = search (filling-place, rules)
+slice-write-table c = search (filling_place, rules)
 
 backward-requires : tie.Need-backward-requires invariant-loop decreases-loop
-backward-requires c κs = search (filling-known, rules)
+backward-requires c κs = search (filling_known, rules)
 
 loop-again : tie.Need-loop-preserved invariant-loop decreases-loop
-loop-again c = search (filling-next, rules)
+loop-again c = search (filling_next, rules)
 
 same_length : tie.Need-same-length invariant-loop decreases-loop
-same_length c = search (filling-long, rules)
+same_length c = search (filling_long, rules)
 
 returns : tie.Need-returns invariant-loop decreases-loop
-returns c = (search (filled-back, rules), search (filled-table, rules))
+returns c = (search (filled_back, rules), search (filled_table, rules))
 
 pub fill_spec : {M : Type 1} → statement M
 fill_spec =

@@ -1,19 +1,19 @@
-use Rattle.machine.specs.Why.{isReason}
-use Rattle.blockers.specs.Answers.{reasonOf}
+use Rattle.machine.specs.Why.{is_reason}
+use Rattle.blockers.specs.Answers.{reason_of}
 use borrow.Author.Rules.{rules}
 use Rattle.blockers.proofs.reasons.Reason.is_there.Statement.{statement}
 use Rattle.blockers.proofs.reasons.Reason.is_there.Tie as tie
 
 returns : tie.Need-returns
-unfolding isReason reasonOf
+unfolding is_reason reason_of
 returns c = search rules
 
 returns-2 : tie.Need-returns-2
-unfolding isReason reasonOf
+unfolding is_reason reason_of
 returns-2 c = search rules
 
 returns-3 : tie.Need-returns-3
-unfolding isReason reasonOf
+unfolding is_reason reason_of
 returns-3 c = search rules
 
 pub is-there-spec : {M : Type 1} → statement M
