@@ -9,7 +9,7 @@ use crate::image::Symbol;
 use crate::rows::{Rows, row_at, rows_of};
 
 // A backward set, and how many of the symbol's rows were walked for it.
-#[derive(Drop)]
+#[derive(Clone, Copy)]
 pub struct Walked {
     pub set: u64,
     pub rows: usize,
@@ -25,7 +25,7 @@ fn with_row(image: &[u8], at: usize, x: u64, set: u64) -> u64
 }
 
 // The sets after one, two and three rows.
-#[derive(Drop)]
+#[derive(Clone, Copy)]
 struct Sets {
     one: u64,
     two: u64,
@@ -44,7 +44,7 @@ fn with_three(image: &[u8], at: usize, x: u64, set: u64) -> Sets
 }
 
 // A place of the walk over the rows, and the states that the rows before it gave.
-#[derive(Drop)]
+#[derive(Clone, Copy)]
 struct Reached {
     at: usize,
     set: u64,

@@ -7,11 +7,11 @@ ghost use Rattle.automata.specs.Answers.{read_image};
 use crate::bytes::{read2, read4, read8, wide};
 
 // A symbol's number.
-#[derive(Drop)]
+#[derive(Clone, Copy)]
 pub struct Symbol(pub u8);
 
 // What an image says before its rows: n, k, m, I and F.
-#[derive(Drop)]
+#[derive(Clone, Copy)]
 pub struct Head {
     pub states: u8,
     pub symbols: u8,
@@ -21,7 +21,7 @@ pub struct Head {
 }
 
 // A valid image's head, or the number under which the image is refused.
-#[derive(Drop)]
+#[derive(Clone, Copy)]
 pub enum Image {
     Valid(Head),
     Refused(u8),

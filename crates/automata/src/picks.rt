@@ -8,7 +8,7 @@ use crate::image::Symbol;
 use crate::rows::{row_at, rows_of};
 
 // The states that have picked a row, and the union of the picked cases.
-#[derive(Drop)]
+#[derive(Clone, Copy)]
 struct Picked {
     states: u64,
     case: u64,

@@ -1,5 +1,6 @@
 // The blocker room: three lent tables, masks, levels and the steps with which the blockers entered, of which the first `held` places are in use. What only
 // asks is lent masks and levels alone.
+#![tactic(auto)]
 pub mod reasons; // reasons.rt: why a case is blocked at a level
 pub mod sizes; // sizes.rt: from which sizes on tables of one's own pay
 
@@ -12,7 +13,7 @@ ghost use Rattle.machine.specs.Lending.{room_now, room_before, room_after};
 ghost use Rattle.blockers.specs.Room.{HoldsRoom, put_at, cleared_between, ClosedUp, Enters, RisesAt, Frames};
 
 // A level's number.
-#[derive(Drop)]
+#[derive(Clone, Copy)]
 pub struct Level(pub u32);
 
 impl Level {
@@ -176,7 +177,7 @@ fn close_up(
 }
 
 // How many blockers are held once one has entered, or that there is no room for it.
-#[derive(Drop)]
+#[derive(Clone, Copy)]
 pub enum Entered {
     Held(usize),
     Full,
@@ -205,7 +206,7 @@ pub fn enter(
 }
 
 // How many blockers are held once one has risen, and where that one stands.
-#[derive(Drop)]
+#[derive(Clone, Copy)]
 pub struct Kept {
     pub held: usize,
     pub place: usize,

@@ -14,7 +14,7 @@ use crate::{Level, covers, one_of_four};
 use masks::State;
 
 // The place of a blocker and its level; an initial state; or nothing, where the case is not blocked.
-#[derive(Drop)]
+#[derive(Clone, Copy)]
 pub enum Reason {
     ByBlocker(usize, Level),
     ByStart(State),

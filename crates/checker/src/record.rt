@@ -7,7 +7,7 @@ use blockers::Level;
 
 // `answer` is 6 while the run works, then the number of its end. Of the blocker room the first `held` places are in use, of the word room the first
 // `pending`. `blocks` counts the blocks made, `accepted` those that took a hint.
-#[derive(Drop)]
+#[derive(Clone, Copy)]
 pub struct Run {
     pub answer: u8,
     pub steps: u64,
@@ -73,11 +73,11 @@ impl Run {
 }
 
 // A level as the owner of a record keeps it, which may be any number.
-#[derive(Drop)]
+#[derive(Clone, Copy)]
 pub struct KeptLevel(pub u64);
 
 // The run's record between two calls. It belongs to the caller, so each number may be any.
-#[derive(Drop)]
+#[derive(Clone, Copy)]
 pub struct Record {
     pub answer: u64,
     pub steps: u64,

@@ -11,7 +11,7 @@ use crate::steps::go_on;
 use automata::image::{Head, Image};
 
 // What a step gives back: its number, and the record as it then is.
-#[derive(Drop)]
+#[derive(Clone, Copy)]
 pub struct Called {
     pub number: u64,
     pub left: Record,

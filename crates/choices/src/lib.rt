@@ -1,5 +1,6 @@
 // The machine's choices: the symbol that extends a pending case, and the set that blocks it. Masks and levels are the part of the blocker room that is in
 // use.
+#![tactic(auto)]
 ghost use Rattle.std.specs.Prelude.{◌≡◌, length};
 ghost use Rattle.lists.specs.Lists.{first_from};
 ghost use Rattle.automata.specs.Image.{symbols_of, rows_of};
@@ -15,14 +16,14 @@ use automata::image::{Head, Symbol};
 use blockers::{Level, reasons};
 
 // The first symbol whose backward set of x is neither inside x nor blocked one level below, with that set; or that there is none.
-#[derive(Drop)]
+#[derive(Clone, Copy)]
 pub enum Found {
     At(Symbol, u64),
     Nothing,
 }
 
 // The set that is to enter, and 1 if it is a hint, else 0.
-#[derive(Drop)]
+#[derive(Clone, Copy)]
 pub struct Choice {
     pub mask: u64,
     pub hinted: u64,

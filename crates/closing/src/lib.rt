@@ -1,4 +1,5 @@
 // The close: at each level the blockers that can rise do so, and then the lowest level that holds none is looked for.
+#![tactic(auto)]
 mod vacancy; // vacancy.rt: the lowest level that holds no blocker
 
 ghost use Rattle.std.specs.Prelude.{◌≤◌, ◌<◌, length};
@@ -14,14 +15,14 @@ use automata::image::Head;
 use blockers::{Level, sizes};
 
 // The lowest level that holds no blocker, or that there is none.
-#[derive(Drop)]
+#[derive(Clone, Copy)]
 enum Lowest {
     At(Level),
     Nothing,
 }
 
 // How many blockers are held after a close, and whether they are the frame, so that the automaton is empty.
-#[derive(Drop)]
+#[derive(Clone, Copy)]
 pub struct Closed {
     pub held: usize,
     pub empty: bool,

@@ -11,7 +11,7 @@ use crate::searching;
 use blockers::{Level, reasons};
 
 // How many places are listed, and before which place they are all those of the level: the number of blockers held, unless the room was too small.
-#[derive(Drop)]
+#[derive(Clone, Copy)]
 pub struct Extent {
     pub end: usize,
     pub upto: usize,

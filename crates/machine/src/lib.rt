@@ -1,1 +1,2 @@
 // No code: the promises, and what they are proved from.
+#![tactic(auto)]

@@ -1,4 +1,5 @@
 // Sets of states as masks of 64 bits: bit q stands for state q.
+#![tactic(auto)]
 ghost use Rattle.std.specs.Prelude.{◌≡◌, false, ◌≤◌, ◌<◌};
 ghost use Rattle.std.proofs.Math.Option.{some};
 ghost use Rattle.lists.specs.Tests.{choose};
@@ -7,7 +8,7 @@ ghost use Rattle.masks.specs.Sets.{without as set_without};
 ghost use Rattle.masks.specs.Sets.{union, single, full as full_set, lowest_absent};
 
 // A state's number.
-#[derive(Drop)]
+#[derive(Clone, Copy)]
 pub struct State(pub u8);
 
 // Whether each state of a is in b.

@@ -19,7 +19,7 @@ use automata::word::{symbols_below, taken_back};
 use writing::{Written, put_byte, put_number};
 
 // The place behind what was put, and the case that its events reach.
-#[derive(Drop)]
+#[derive(Clone, Copy)]
 struct Put {
     end: usize,
     case: u64,

@@ -1,5 +1,6 @@
 // Bytes into a lent room: one byte, a number in decimal, digit by digit, most significant first, or a line of numbers. A byte that has no place in the room is
 // not written, so a room without places serves to count.
+#![tactic(auto)]
 ghost use Rattle.std.specs.Prelude.{◌≡◌, [], ◌∷◌, ◌+◌, ◌*◌, ◌^◌, ◌≤◌, ◌<◌, length};
 ghost use Rattle.std.proofs.lemmas.List.Edits.{sets};
 ghost use Rattle.writing.specs.Decimal.{digits};
@@ -7,7 +8,7 @@ ghost use Rattle.writing.specs.Lines.{newline, numbers_line};
 ghost use Rattle.writing.specs.Putting.{next_number, Puts};
 
 // What a function that writes bytes answers: its number, and how many bytes were written.
-#[derive(Drop)]
+#[derive(Clone, Copy)]
 pub struct Written {
     pub number: u64,
     pub length: usize,
