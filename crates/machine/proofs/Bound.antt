@@ -15,7 +15,7 @@ use Rattle.masks.specs.Sets.{full}
 use Rattle.masks.proofs.Laws.{within_below, suc_full}
 use Rattle.machine.specs.System.{System}
 use Rattle.machine.specs.Machine.{Blocker, Pending, Configuration, Given, Rooms, beginning, staying, pending_after, chosen}
-use Rattle.machine.specs.Machine.{Step, open_step, extend_step, block_step, close_with, goes_on, ends, Outcome}
+use Rattle.machine.specs.Machine.{Step, blocks, open_step, extend_step, block_step, close_with, goes_on, ends, Outcome}
 use Rattle.machine.proofs.Language.{Lawful, Sound, Decided}
 use Rattle.machine.proofs.Tables.{by_blocker, blocked_covered}
 use Rattle.machine.proofs.Rising.{put_among, levels_grown}
@@ -75,6 +75,10 @@ pub record Bounded (S : System) (c : Configuration) : Type 0 where
   pub level_low : c.level + shut c.is_open ≤ 2 ^ S.states
   pub steps_fewer : c.steps < measure S c.table c.level c.pending c.is_open
 
+-- a block that goes on goes on as it made the configuration
+blocked_goes : {rooms : Rooms} {c made d : Configuration} → Judged rooms c (blocks made) (goes_on d) → made ≡ d
+blocked_goes (room_to_block k) = refl
+
 module _ {S : System} (lawful : Lawful S) where
   -- a step that is made raises the measure, and a close without a verdict leaves a level to open
   bounded_goes : {given : Given} → Sound S given.grow → {rooms : Rooms} {c d : Configuration} {pending : List Pending} {is_open : Bool} {st : Step}
@@ -82,15 +86,17 @@ module _ {S : System} (lawful : Lawful S) where
       → c.level + shut is_open ≤ 2 ^ S.states → c.steps < measure S c.table c.level pending is_open → Bounded S d
   unfolding open_step extend_step block_step close_with measure put_among staying keep bit neg
   bounded_goes sound opening (room_to_open k) h e l m = omega arith
+  bounded_goes sound (finding s k t u) j h e l m = elim j [ ]
   bounded_goes sound (extending s k t u) extended h e l m = omega (arith, ap shut e)
-  bounded_goes {given} sound {c = c} (blocking {p = p} {rest = rest} f) (room_to_block k) h e l m =
+  bounded_goes {given} sound {c = c} (blocking {p = p} {rest = rest} f) j h e l m =
       let passing = chosen_passes sound (unqualified_passes h f) (chosen_is S given c (under c rest) p.case) in
       let new : List Blocker = (made_by (block_step S.initial S.finals c rest (under c rest) (chosen S given c (under c rest) p.case))).table in
       let more : blocked_pairs S c.table < blocked_pairs S new = block_more h _ passing (omega arith) in
-      omega (arith, ap shut e, more, after_length S new c.level rest)
+      subst (Bounded S) (blocked_goes j) (omega (arith, ap shut e, more, after_length S new c.level rest))
   bounded_goes sound {c = c} (closing q) closed h e l m =
       let grown = levels_grown c.level 1 (omega arith) h.kept in
       omega (arith, levels_held (closed_table S c) c.level q, few_blockers lawful grown.kept, pairs_monotone S grown.grows)
+  bounded_goes sound (emptying i k t u) j h e l m = elim j [ ]
 
   -- so does each call that goes on, whatever it is given, as long as it grows soundly
   pub advanced_bounded : {rooms : Rooms} {given : Given} {c d : Configuration} → Sound S given.grow → Holds S c → Bounded S c
@@ -110,7 +116,9 @@ module _ {S : System} (lawful : Lawful S) where
     unfolding open_step extend_step block_step close_with bit neg
     ends_decided opening (no_room_to_open k) r l steps = absurd (omega arith)
     ends_decided (finding s i t u) found r l steps = record { verdict = tt; in_time = steps }
+    ends_decided (extending s i t u) j r l steps = elim j [ ]
     ends_decided (blocking f) (no_room_to_block k) r l steps = absurd (omega (arith, few_blockers lawful r.kept))
+    ends_decided (closing q) j r l steps = elim j [ ]
     ends_decided (emptying j i h t) emptied r l steps = record { verdict = tt; in_time = steps }
 
     -- a call that ends a run gives a verdict: its allowance is not used up, and there is room

@@ -206,12 +206,15 @@ pub read_back_pending : (pending : List Pending) (cases symbols : List ℕ)
 unfolding pending_first column_back
 read_back_pending [] cases symbols = refl
 read_back_pending (p ∷ pending) cases symbols =
-    rw (append_snoc (column_back case_of pending) p.case cases, append_snoc (column_back symbol_of pending) p.symbol symbols)
-    (rw (
+    ap
+    (λ (room : WordRoom). pending_first room (suc (length pending)))
+    (ap (λ (front : List ℕ). word_room_of front ((column_back symbol_of pending ++ p.symbol ∷ []) ++ symbols)) (append_snoc (column_back case_of pending) p.case cases)
+    ∙ ap (λ (front : List ℕ). word_room_of (column_back case_of pending ++ p.case ∷ cases) front) (append_snoc (column_back symbol_of pending) p.symbol symbols))
+    ∙ rw (
       get_or_at (column_back case_of pending) p.case cases 0 (length pending) (column_back_length case_of pending),
       get_or_at (column_back symbol_of pending) p.symbol symbols 0 (length pending) (column_back_length symbol_of pending),
     )
-    (ap (λ (rest : List Pending). p ∷ rest) (read_back_pending pending (p.case ∷ cases) (p.symbol ∷ symbols))))
+    (ap (λ (rest : List Pending). p ∷ rest) (read_back_pending pending (p.case ∷ cases) (p.symbol ∷ symbols)))
 
 -- so they are where they stand in place of others
 pub read_back_placed : (pending : List Pending) (old : ℕ) (room : WordRoom) → pending_first (with_pending old pending room) (length pending) ≡ pending
