@@ -111,8 +111,8 @@ fn put(
     level: Level,
     step: u64,
 )
-    requires { HoldsRoom (place + 1) (room_now masks levels entered) }
-    ensures { room_after masks levels entered ≡ put_at (record { mask = mask; level = level.0; entered = step }) place (room_before masks levels entered) }
+    requires { HoldsRoom (place + 1) (room_now masks.old levels.old entered.old) }
+    ensures { room_after masks.new levels.new entered.new ≡ put_at (record { mask = mask; level = level.0; entered = step }) place (room_before masks.old levels.old entered.old) }
 {
     masks[place] = mask;
     levels[place] = level.0;
@@ -127,8 +127,8 @@ pub fn clear_between(
     from: usize,
     to: usize,
 )
-    requires { HoldsRoom to (room_now masks levels entered) }
-    ensures { room_after masks levels entered ≡ cleared_between from to (room_before masks levels entered) }
+    requires { HoldsRoom to (room_now masks.old levels.old entered.old) }
+    ensures { room_after masks.new levels.new entered.new ≡ cleared_between from to (room_before masks.old levels.old entered.old) }
 {
     let mut i = from;
     while i < to {
@@ -150,8 +150,8 @@ fn close_up(
     mask: u64,
     level: Level,
 ) -> usize
-    requires { (start ≤ from) × (from ≤ to) × HoldsRoom to (room_now masks levels entered) }
-    ensures { ClosedUp (blocker_of mask level.0) start from to result (room_before masks levels entered) (room_after masks levels entered) }
+    requires { (start ≤ from) × (from ≤ to) × HoldsRoom to (room_now masks.old levels.old entered.old) }
+    ensures { ClosedUp (blocker_of mask level.0) start from to result (room_before masks.old levels.old entered.old) (room_after masks.new levels.new entered.new) }
 {
     let mut kept = start;
     let mut i = from;
@@ -194,8 +194,8 @@ pub fn enter(
     level: Level,
     step: u64,
 ) -> Entered
-    requires { HoldsRoom held (room_now masks levels entered) × EvenRoom (room_now masks levels entered) }
-    ensures { Enters held (record { mask = mask; level = level.0; entered = step }) (room_before masks levels entered) result (room_after masks levels entered) }
+    requires { HoldsRoom held (room_now masks.old levels.old entered.old) × EvenRoom (room_now masks.old levels.old entered.old) }
+    ensures { Enters held (record { mask = mask; level = level.0; entered = step }) (room_before masks.old levels.old entered.old) result (room_after masks.new levels.new entered.new) }
 {
     let end = close_up(masks, levels, entered, 0, 0, held, mask, level);
     if masks.len() <= end {
@@ -220,8 +220,8 @@ pub fn rise(
     held: usize,
     place: usize,
 ) -> Kept
-    requires { HoldsRoom held (room_now masks levels entered) × (place < held) × (get_or levels.old place 0 < 4294967295) }
-    ensures { RisesAt held place (room_before masks levels entered) result.held result.place (room_after masks levels entered) }
+    requires { HoldsRoom held (room_now masks.old levels.old entered.old) × (place < held) × (get_or levels.old place 0 < 4294967295) }
+    ensures { RisesAt held place (room_before masks.old levels.old entered.old) result.held result.place (room_after masks.new levels.new entered.new) }
 {
     let mask = masks[place];
     let level = Level(levels[place]).above();
@@ -252,8 +252,8 @@ pub fn frame(
     held: usize,
     level: Level,
 ) -> usize
-    requires { HoldsRoom held (room_now masks levels entered) }
-    ensures { Frames held level.0 (room_before masks levels entered) result (room_after masks levels entered) }
+    requires { HoldsRoom held (room_now masks.old levels.old entered.old) }
+    ensures { Frames held level.0 (room_before masks.old levels.old entered.old) result (room_after masks.new levels.new entered.new) }
 {
     close_up(
         masks,

@@ -37,7 +37,7 @@ impl Reason {
 // Whether the blocker at a place covers the case.
 pub fn covers_at(masks: &[u64], levels: &[u32], place: usize, least: Level, case: u64) -> bool
     requires { (place < length masks.now) × (place < length levels.now) }
-    ensures { result ≡ covers_case least.0 case (blocker_at (unstamped_before masks levels) place) }
+    ensures { result ≡ covers_case least.0 case (blocker_at (unstamped_before masks.now levels.now) place) }
 {
     covers(masks[place], Level(levels[place]), least, case)
 }
@@ -55,7 +55,7 @@ pub fn count_in(masks: &[u64], levels: &[u32]) -> usize
 // Whether one of the four blockers from `at` on covers the case.
 fn four_cover(masks: &[u64], levels: &[u32], at: usize, level: Level, case: u64) -> bool
     requires { Holds (at + 4) masks.now levels.now }
-    ensures { result ≡ any (covers_case level.0 case) (blockers_from (unstamped_before masks levels) 4 at) }
+    ensures { result ≡ any (covers_case level.0 case) (blockers_from (unstamped_before masks.now levels.now) 4 at) }
 {
     let first = covers_at(masks, levels, at, level, case);
     let second = covers_at(masks, levels, at + 1, level, case);
@@ -109,7 +109,7 @@ pub fn after(masks: &[u64], levels: &[u32], place: usize, level: Level, case: u6
 // The blocker at the place if it covers the case, or nothing.
 pub fn reason_at(masks: &[u64], levels: &[u32], place: usize, level: Level, case: u64) -> Reason
     requires { (place < length masks.now) × (place < length levels.now) }
-    ensures { reason_of result ≡ first_covering level.0 case place (blocker_at (unstamped_before masks levels) place ∷ []) }
+    ensures { reason_of result ≡ first_covering level.0 case place (blocker_at (unstamped_before masks.now levels.now) place ∷ []) }
 {
     if covers_at(masks, levels, place, level, case) {
         return Reason::ByBlocker(place, Level(levels[place]));
@@ -119,7 +119,7 @@ pub fn reason_at(masks: &[u64], levels: &[u32], place: usize, level: Level, case
 
 // The first blocker that covers the case, or nothing.
 fn first_covering(masks: &[u64], levels: &[u32], level: Level, case: u64) -> Reason
-    ensures { reason_of result ≡ first_covering level.0 case 0 (blockers_before masks levels) }
+    ensures { reason_of result ≡ first_covering level.0 case 0 (blockers_before masks.now levels.now) }
 {
     let count = count_in(masks, levels);
     let mut i = skip_first(masks, levels, level, case);
@@ -145,7 +145,7 @@ pub fn lowest_initial(initial: u64, case: u64) -> Reason
 
 // Why the case is blocked at the level, for every input.
 pub fn why(initial: u64, masks: &[u64], levels: &[u32], level: Level, case: u64) -> Reason
-    ensures { reason_of result ≡ why_blocked initial (blockers_before masks levels) level.0 case }
+    ensures { reason_of result ≡ why_blocked initial (blockers_before masks.now levels.now) level.0 case }
 {
     if level.equals(Level(0)) {
         return lowest_initial(initial, case);

@@ -52,8 +52,8 @@ fn clear_rooms(
     cases: &mut [u64],
     symbols: &mut [u8],
 )
-    requires { Checked (room_now masks levels entered) (word_now cases symbols) }
-    ensures { lent_after masks levels entered cases symbols ≡ zeroed (lent_before masks levels entered cases symbols) }
+    requires { Checked (room_now masks.old levels.old entered.old) (word_now cases.old symbols.old) }
+    ensures { lent_after masks.new levels.new entered.new cases.new symbols.new ≡ zeroed (lent_before masks.old levels.old entered.old cases.old symbols.old) }
 {
     blockers::clear_between(masks, levels, entered, 0, masks.len());
     wordroom::clear_first(cases, symbols, cases.len());
@@ -73,8 +73,8 @@ pub(crate) fn begin_read(
     way: u64,
 ) -> Run
     requires { ReadAs image.now head }
-    ensures { stage_after masks levels entered cases symbols result
-        ≡ (begin_of image.now (lent_before masks levels entered cases symbols) (terms_of hints.now 0 edition way)).left }
+    ensures { stage_after masks.new levels.new entered.new cases.new symbols.new result
+        ≡ (begin_of image.now (lent_before masks.old levels.old entered.old cases.old symbols.old) (terms_of hints.now 0 edition way)).left }
 {
     let number = check_terms(masks, levels, entered, cases, symbols, hints, edition, way);
     if number != 0 {
@@ -97,8 +97,8 @@ pub fn begin(
     edition: u64,
     way: u64,
 ) -> Record
-    ensures { answering (kept_after masks levels entered cases symbols result)
-        ≡ begin_of image.now (lent_before masks levels entered cases symbols) (terms_of hints.now 0 edition way) }
+    ensures { answering (kept_after masks.new levels.new entered.new cases.new symbols.new result)
+        ≡ begin_of image.now (lent_before masks.old levels.old entered.old cases.old symbols.old) (terms_of hints.now 0 edition way) }
 {
     match automata::image::read_image(image) {
         Image::Refused(number) => alone(number).to_record(),

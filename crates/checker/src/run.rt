@@ -26,8 +26,8 @@ fn run_read(
     way: u64,
 ) -> Run
     requires { ReadAs image.now head }
-    ensures { stage_after masks levels entered cases symbols result
-        ≡ run_of image.now (lent_before masks levels entered cases symbols) (terms_of hints.now allowance edition way) }
+    ensures { stage_after masks.new levels.new entered.new cases.new symbols.new result
+        ≡ run_of image.now (lent_before masks.old levels.old entered.old cases.old symbols.old) (terms_of hints.now allowance edition way) }
 {
     let begun = begin_read(
         image, head, masks, levels, entered, cases, symbols, hints, edition, way,
@@ -51,8 +51,8 @@ pub fn run(
     edition: u64,
     way: u64,
 ) -> Run
-    ensures { stage_after masks levels entered cases symbols result
-        ≡ run_of image.now (lent_before masks levels entered cases symbols) (terms_of hints.now allowance edition way) }
+    ensures { stage_after masks.new levels.new entered.new cases.new symbols.new result
+        ≡ run_of image.now (lent_before masks.old levels.old entered.old cases.old symbols.old) (terms_of hints.now allowance edition way) }
 {
     match automata::image::read_image(image) {
         Image::Refused(number) => alone(number),

@@ -33,8 +33,8 @@ fn step_read(
     before: Record,
 ) -> Called
     requires { ReadAs image.now head }
-    ensures { called_after masks levels entered cases symbols result
-        ≡ step_of image.now (terms_of hints.now allowance edition way) (kept_before masks levels entered cases symbols before) }
+    ensures { called_after masks.new levels.new entered.new cases.new symbols.new result
+        ≡ step_of image.now (terms_of hints.now allowance edition way) (kept_before masks.old levels.old entered.old cases.old symbols.old before) }
 {
     let number = check_terms(masks, levels, entered, cases, symbols, hints, edition, way);
     if number != 0 {
@@ -75,8 +75,8 @@ pub fn step(
     way: u64,
     before: Record,
 ) -> Called
-    ensures { called_after masks levels entered cases symbols result
-        ≡ step_of image.now (terms_of hints.now allowance edition way) (kept_before masks levels entered cases symbols before) }
+    ensures { called_after masks.new levels.new entered.new cases.new symbols.new result
+        ≡ step_of image.now (terms_of hints.now allowance edition way) (kept_before masks.old levels.old entered.old cases.old symbols.old before) }
 {
     match automata::image::read_image(image) {
         Image::Refused(number) => Called {
@@ -104,8 +104,8 @@ pub fn step_on(
     way: u64,
     kept: &mut Record,
 ) -> u64
-    ensures { called_after masks levels entered cases symbols (record { number = result; left = kept.new })
-        ≡ step_of image.now (terms_of hints.now allowance edition way) (kept_before masks levels entered cases symbols kept.old) }
+    ensures { called_after masks.new levels.new entered.new cases.new symbols.new (record { number = result; left = kept.new })
+        ≡ step_of image.now (terms_of hints.now allowance edition way) (kept_before masks.old levels.old entered.old cases.old symbols.old kept.old) }
 {
     let called = step(
         image, masks, levels, entered, cases, symbols, hints, allowance, edition, way, *kept,

@@ -21,8 +21,8 @@ use choices::{Choice, Found};
 
 // The run ends without a verdict, under the number of what it lacks: nothing stays pending.
 fn stop(cases: &mut [u64], symbols: &mut [u8], run: Run, number: u8) -> Run
-    requires { HoldsWord run.pending (word_now cases symbols) }
-    ensures { Leaves (left_of run number 0) (with_word run.pending [] (word_before cases symbols)) result (word_after cases symbols) }
+    requires { HoldsWord run.pending (word_now cases.old symbols.old) }
+    ensures { Leaves (left_of run number 0) (with_word run.pending [] (word_before cases.old symbols.old)) result (word_after cases.new symbols.new) }
 {
     wordroom::clear_first(cases, symbols, run.pending);
     run.left(number, 0)
@@ -38,8 +38,8 @@ fn pend_final(
     cases: &mut [u64],
     symbols: &mut [u8],
 ) -> usize
-    requires { HoldsWord 1 (word_now cases symbols) }
-    ensures { Pends 0 (final_pending initial (finals ∷ []) (blockers_before masks levels) level.0) result (word_before cases symbols) (word_after cases symbols) }
+    requires { HoldsWord 1 (word_now cases.old symbols.old) }
+    ensures { Pends 0 (final_pending initial (finals ∷ []) (blockers_before masks.now levels.now) level.0) result (word_before cases.old symbols.old) (word_after cases.new symbols.new) }
 {
     if blockers::reasons::why(initial, masks, levels, level, finals).is_there() {
         return 0;
@@ -59,9 +59,9 @@ fn pend_after(
     symbols: &mut [u8],
     rest: usize,
 ) -> usize
-    requires { HoldsWord (rest + 1) (word_now cases symbols) }
-    ensures { Pends rest (pending_after initial (finals ∷ []) (blockers_before masks levels) level.0
-        (pending_first (word_before cases symbols) rest)) result (word_before cases symbols) (word_after cases symbols) }
+    requires { HoldsWord (rest + 1) (word_now cases.old symbols.old) }
+    ensures { Pends rest (pending_after initial (finals ∷ []) (blockers_before masks.now levels.now) level.0
+        (pending_first (word_before cases.old symbols.old) rest)) result (word_before cases.old symbols.old) (word_after cases.new symbols.new) }
 {
     if rest == 0 {
         return pend_final(initial, finals, masks, levels, level, cases, symbols);
@@ -81,8 +81,8 @@ fn open_level(
     requires { Holds run.held masks.now levels.now × (length cases.old ≡ length symbols.old)
         × (length cases.old ≤ 65536) × (run.pending ≡ 0) × (run.steps < 18446744073709551615) }
     ensures { Opened (ltb run.level.0 (length cases.old)) run
-        (final_pending head.initial (head.finals ∷ []) (blockers_from (unstamped_before masks levels) run.held 0) (run.level.0 + 1))
-        (word_before cases symbols) result (word_after cases symbols) }
+        (final_pending head.initial (head.finals ∷ []) (blockers_from (unstamped_before masks.now levels.now) run.held 0) (run.level.0 + 1))
+        (word_before cases.old symbols.old) result (word_after cases.new symbols.new) }
 {
     let level = run.level;
     if cases.len() <= level.0 as usize {
@@ -107,10 +107,10 @@ fn open_level(
 
 // The backward set of the lowest pending case contains I: the run ends with the word.
 fn find_word(cases: &mut [u64], symbols: &mut [u8], run: Run, symbol: Symbol) -> Run
-    requires { HoldsWord run.pending (word_now cases symbols) × (1 ≤ run.pending) × (run.steps < 18446744073709551615) }
+    requires { HoldsWord run.pending (word_now cases.old symbols.old) × (1 ≤ run.pending) × (run.steps < 18446744073709551615) }
     ensures { Leaves (counted_of run 1 0)
-        (with_word run.pending (symbol.0 ∷ word_of (pending_first (word_before cases symbols) run.pending))
-        (word_before cases symbols)) result (word_after cases symbols) }
+        (with_word run.pending (symbol.0 ∷ word_of (pending_first (word_before cases.old symbols.old) run.pending))
+        (word_before cases.old symbols.old)) result (word_after cases.new symbols.new) }
 {
     wordroom::write_word(cases, symbols, run.pending, symbol);
     run.counted(1, 0)
@@ -118,10 +118,10 @@ fn find_word(cases: &mut [u64], symbols: &mut [u8], run: Run, symbol: Symbol) ->
 
 // The backward set becomes pending, below the others.
 fn pend_more(cases: &mut [u64], symbols: &mut [u8], run: Run, symbol: Symbol, case: u64) -> Run
-    requires { HoldsWord (run.pending + 1) (word_now cases symbols) × (run.steps < 18446744073709551615) }
+    requires { HoldsWord (run.pending + 1) (word_now cases.old symbols.old) × (run.steps < 18446744073709551615) }
     ensures { Leaves (counted_of run 6 (run.pending + 1))
-        (with_pending run.pending (record { case = case; symbol = symbol.0 } ∷ pending_first (word_before cases symbols) run.pending)
-        (word_before cases symbols)) result (word_after cases symbols) }
+        (with_pending run.pending (record { case = case; symbol = symbol.0 } ∷ pending_first (word_before cases.old symbols.old) run.pending)
+        (word_before cases.old symbols.old)) result (word_after cases.new symbols.new) }
 {
     let count = run.pending;
     wordroom::push(cases, symbols, count, case, symbol);
@@ -137,10 +137,10 @@ fn extend(
     symbol: Symbol,
     case: u64,
 ) -> Run
-    requires { HoldsWord run.pending (word_now cases symbols) × (1 ≤ run.pending) × (run.steps < 18446744073709551615)
-        × (is_subset initial case ≡ false → HoldsWord (run.pending + 1) (word_now cases symbols)) }
-    ensures { Extended (is_subset initial case) run (record { case = case; symbol = symbol.0 }) (pending_first (word_before cases symbols) run.pending)
-        (word_before cases symbols) result (word_after cases symbols) }
+    requires { HoldsWord run.pending (word_now cases.old symbols.old) × (1 ≤ run.pending) × (run.steps < 18446744073709551615)
+        × (is_subset initial case ≡ false → HoldsWord (run.pending + 1) (word_now cases.old symbols.old)) }
+    ensures { Extended (is_subset initial case) run (record { case = case; symbol = symbol.0 }) (pending_first (word_before cases.old symbols.old) run.pending)
+        (word_before cases.old symbols.old) result (word_after cases.new symbols.new) }
 {
     if masks::subset(initial, case) {
         return find_word(cases, symbols, run, symbol);
@@ -159,11 +159,11 @@ fn unpend(
     held: usize,
     hinted: u64,
 ) -> Run
-    requires { Holds held masks.now levels.now × HoldsWord run.pending (word_now cases symbols) × (1 ≤ run.pending) × Countable run hinted }
+    requires { Holds held masks.now levels.now × HoldsWord run.pending (word_now cases.old symbols.old) × (1 ≤ run.pending) × Countable run hinted }
     ensures { Unpends run held hinted
-        (pending_after head.initial (head.finals ∷ []) (blockers_from (unstamped_before masks levels) held 0) run.level.0
-        (pending_first (word_before cases symbols) (run.pending - 1)))
-        (word_before cases symbols) result (word_after cases symbols) }
+        (pending_after head.initial (head.finals ∷ []) (blockers_from (unstamped_before masks.now levels.now) held 0) run.level.0
+        (pending_first (word_before cases.old symbols.old) (run.pending - 1)))
+        (word_before cases.old symbols.old) result (word_after cases.new symbols.new) }
 {
     let rest = run.pending - 1;
     wordroom::pop(cases, symbols, run.pending);
@@ -193,10 +193,10 @@ fn enter_chosen(
     below: Level,
     choice: Choice,
 ) -> Run
-    requires { Ready (stage_now masks levels entered cases symbols run) × (1 ≤ run.pending) × (below.0 < 65536) × Countable run choice.hinted }
-    ensures { stage_after masks levels entered cases symbols result
-        ≡ made_by (λ c. block_step head.initial (head.finals ∷ []) c (pending_first (word_before cases symbols) (run.pending - 1)) below.0 (choice_of choice))
-        (stage_before masks levels entered cases symbols run) }
+    requires { Ready (stage_now masks.old levels.old entered.old cases.old symbols.old run) × (1 ≤ run.pending) × (below.0 < 65536) × Countable run choice.hinted }
+    ensures { stage_after masks.new levels.new entered.new cases.new symbols.new result
+        ≡ made_by (λ c. block_step head.initial (head.finals ∷ []) c (pending_first (word_before cases.old symbols.old) (run.pending - 1)) below.0 (choice_of choice))
+        (stage_before masks.old levels.old entered.old cases.old symbols.old run) }
 {
     let answer = blockers::enter(
         masks,
@@ -237,10 +237,10 @@ fn block(
     below: Level,
     x: u64,
 ) -> Run
-    requires { ReadAs image.now head × Ready (stage_now masks levels entered cases symbols run) × (1 ≤ run.pending) × (below.0 < 65536) × (run.steps < 18446744073709551615) }
-    ensures { stage_after masks levels entered cases symbols result
-        ≡ made_by (block_of image.now hints.now way (pending_first (word_before cases symbols) (run.pending - 1)) below.0 x)
-        (stage_before masks levels entered cases symbols run) }
+    requires { ReadAs image.now head × Ready (stage_now masks.old levels.old entered.old cases.old symbols.old run) × (1 ≤ run.pending) × (below.0 < 65536) × (run.steps < 18446744073709551615) }
+    ensures { stage_after masks.new levels.new entered.new cases.new symbols.new result
+        ≡ made_by (block_of image.now hints.now way (pending_first (word_before cases.old symbols.old) (run.pending - 1)) below.0 x)
+        (stage_before masks.old levels.old entered.old cases.old symbols.old run) }
 {
     let held = run.held;
     let choice = choices::choose_set(
@@ -272,10 +272,10 @@ fn work(
     way: u64,
     run: Run,
 ) -> Run
-    requires { ReadAs image.now head × Ready (stage_now masks levels entered cases symbols run) × (1 ≤ run.pending) × (run.steps < 18446744073709551615) }
-    ensures { stage_after masks levels entered cases symbols result
+    requires { ReadAs image.now head × Ready (stage_now masks.old levels.old entered.old cases.old symbols.old run) × (1 ≤ run.pending) × (run.steps < 18446744073709551615) }
+    ensures { stage_after masks.new levels.new entered.new cases.new symbols.new result
         ≡ made_by (machine_step (system_of image.now) (choices_of image.now hints.now way))
-        (stage_before masks levels entered cases symbols run) }
+        (stage_before masks.old levels.old entered.old cases.old symbols.old run) }
 {
     let x = cases[run.pending - 1];
     let below = Level(run.level.0 - run.pending as u32);
@@ -305,8 +305,8 @@ fn close_level(
     entered: &mut [u64],
     run: Run,
 ) -> Run
-    requires { ReadAs image.now head × HoldsRoom run.held (room_now masks levels entered) × (run.level.0 < 4294967295) × (run.steps < 18446744073709551615) }
-    ensures { ClosesLevel (system_of image.now) run result (room_before masks levels entered) (room_after masks levels entered) }
+    requires { ReadAs image.now head × HoldsRoom run.held (room_now masks.old levels.old entered.old) × (run.level.0 < 4294967295) × (run.steps < 18446744073709551615) }
+    ensures { ClosesLevel (system_of image.now) run result (room_before masks.old levels.old entered.old) (room_after masks.new levels.new entered.new) }
 {
     let level = run.level;
     let closed = closing::close(image, head, masks, levels, entered, run.held, level);
@@ -331,10 +331,10 @@ fn working_step(
     allowance: u64,
     way: u64,
 ) -> Run
-    requires { ReadAs image.now head × Ready (stage_now masks levels entered cases symbols run) }
-    ensures { stage_after masks levels entered cases symbols result
+    requires { ReadAs image.now head × Ready (stage_now masks.old levels.old entered.old cases.old symbols.old run) }
+    ensures { stage_after masks.new levels.new entered.new cases.new symbols.new result
         ≡ working_step image.now (step_given image.now hints.now allowance way)
-        (stage_before masks levels entered cases symbols run) }
+        (stage_before masks.old levels.old entered.old cases.old symbols.old run) }
 {
     if allowance <= run.steps {
         return stop(cases, symbols, run, 2);
@@ -365,10 +365,10 @@ pub(crate) fn go_on(
     way: u64,
     more: u64,
 ) -> Run
-    requires { ReadAs image.now head × (run.answer ≡ 6 → Ready (stage_now masks levels entered cases symbols run)) }
-    ensures { stage_after masks levels entered cases symbols result
+    requires { ReadAs image.now head × (run.answer ≡ 6 → Ready (stage_now masks.old levels.old entered.old cases.old symbols.old run)) }
+    ensures { stage_after masks.new levels.new entered.new cases.new symbols.new result
         ≡ went_on image.now (step_given image.now hints.now allowance way) (suc more)
-        (stage_before masks levels entered cases symbols run) }
+        (stage_before masks.old levels.old entered.old cases.old symbols.old run) }
 {
     let mut next = run;
     let mut left = more;

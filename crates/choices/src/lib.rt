@@ -40,7 +40,7 @@ pub fn first_symbol(
 ) -> Found
     requires { ReadAs image.now head × (length masks.now ≡ length levels.now) }
     ensures { result ≡ found_of (system_of image.now) x
-        (first_from (qualifies (system_of image.now) (blockers_before masks levels) below.0 x)
+        (first_from (qualifies (system_of image.now) (blockers_before masks.now levels.now) below.0 x)
         (symbols_of image.now) 0) }
 {
     'symbols: for s in 0..head.symbols {
@@ -79,7 +79,7 @@ fn grow(
 ) -> u64
     requires { ReadAs image.now head }
     ensures { result ≡ growth_of way (system_of image.now) (rows_of image.now)
-        (blockers_before masks levels) below.0 x }
+        (blockers_before masks.now levels.now) below.0 x }
 {
     if way == 0 {
         return growing::by_states(image, head, masks, levels, below, x);
@@ -101,7 +101,7 @@ pub fn choose_set(
 ) -> Choice
     requires { ReadAs image.now head }
     ensures { choice_of result ≡ chosen_from (system_of image.now) (growth_of way (system_of image.now) (rows_of image.now))
-        (blockers_before masks levels) below.0 x (hint_at hints.now blocks) }
+        (blockers_before masks.now levels.now) below.0 x (hint_at hints.now blocks) }
 {
     let number = blocks as usize;
     if hints.len() <= number {

@@ -49,9 +49,9 @@ fn rise_all(
     held: usize,
     top: Level,
 ) -> usize
-    requires { ReadAs image.now head × HoldsRoom held (room_now masks levels entered) × (top.0 < 4294967295) }
-    ensures { Becomes held (risen_by (system_of image.now) top.0 (table_of held (room_before masks levels entered)))
-        (room_before masks levels entered) result (room_after masks levels entered) }
+    requires { ReadAs image.now head × HoldsRoom held (room_now masks.old levels.old entered.old) × (top.0 < 4294967295) }
+    ensures { Becomes held (risen_by (system_of image.now) top.0 (table_of held (room_before masks.old levels.old entered.old)))
+        (room_before masks.old levels.old entered.old) result (room_after masks.new levels.new entered.new) }
 {
     if !is_indexed(levels, held) {
         return rising::rise_levels(image, head, masks, levels, entered, held, top);
@@ -70,9 +70,9 @@ pub fn close(
     held: usize,
     top: Level,
 ) -> Closed
-    requires { ReadAs image.now head × HoldsRoom held (room_now masks levels entered) × (top.0 < 4294967295) }
+    requires { ReadAs image.now head × HoldsRoom held (room_now masks.old levels.old entered.old) × (top.0 < 4294967295) }
     ensures { Closes (system_of image.now) top.0 held
-        (room_before masks levels entered) result (room_after masks levels entered) }
+        (room_before masks.old levels.old entered.old) result (room_after masks.new levels.new entered.new) }
 {
     let count = rise_all(image, head, masks, levels, entered, held, top);
     let Lowest::At(level) = vacancy::lowest_none(&levels[..count], top) else {

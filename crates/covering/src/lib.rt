@@ -21,7 +21,7 @@ fn list_one(
     place: usize,
 ) -> usize
     requires { (place < length masks.now) × (place < length levels.now) × (length near.old < 65535) × (end ≤ 65535) }
-    ensures { ListedOne below.0 p (blocker_at (unstamped_before masks levels) place) near.old near.new end result }
+    ensures { ListedOne below.0 p (blocker_at (unstamped_before masks.now levels.now) place) near.old near.new end result }
 {
     if near.len() <= end {
         return 65535;
@@ -43,7 +43,7 @@ fn list_covers(
     start: usize,
 ) -> usize
     requires { (start ≤ length near.old) × (length near.old < 65535) }
-    ensures { Listed (blockers_before masks levels) below.0 p near.old near.new start result }
+    ensures { Listed (blockers_before masks.now levels.now) below.0 p near.old near.new start result }
 {
     let count = count_in(masks, levels);
     let mut end = start;
@@ -68,7 +68,7 @@ pub fn list_on(
     start: usize,
 ) -> usize
     requires { length near.old < 65535 }
-    ensures { Listed (blockers_before masks levels) below.0 p near.old near.new start result }
+    ensures { Listed (blockers_before masks.now levels.now) below.0 p near.old near.new start result }
 {
     if near.len() < start {
         return start;
@@ -103,8 +103,8 @@ pub fn is_settled(
     from: usize,
     to: usize,
 ) -> bool
-    requires { to ≤ length near.now → one_holds near.now from (to - from) p ≡ blocked initial (blockers_now masks levels) below.0 p }
-    ensures { result ≡ is_settled initial (blockers_before masks levels) below.0 y p }
+    requires { to ≤ length near.now → one_holds near.now from (to - from) p ≡ blocked initial (blockers_now masks.now levels.now) below.0 p }
+    ensures { result ≡ is_settled initial (blockers_before masks.now levels.now) below.0 y p }
 {
     if masks::subset(p, y) {
         return true;
@@ -128,9 +128,9 @@ pub fn settled_anew(
     from: usize,
     to: usize,
 ) -> bool
-    requires { (to ≤ length near.now → one_holds near.now from (to - from) p ≡ blocked initial (blockers_now masks levels) below.0 p)
-        × (p ≡ before → true ≡ is_settled initial (blockers_now masks levels) below.0 y p) }
-    ensures { result ≡ is_settled initial (blockers_before masks levels) below.0 y p }
+    requires { (to ≤ length near.now → one_holds near.now from (to - from) p ≡ blocked initial (blockers_now masks.now levels.now) below.0 p)
+        × (p ≡ before → true ≡ is_settled initial (blockers_now masks.now levels.now) below.0 y p) }
+    ensures { result ≡ is_settled initial (blockers_before masks.now levels.now) below.0 y p }
 {
     if p == before {
         return true;

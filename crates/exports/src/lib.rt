@@ -77,8 +77,8 @@ pub extern "C" fn afa_run(
     way: u64,
     counts: &mut [u64; 4],
 ) -> u64
-    ensures { Ran result counts.new (lent_after masks levels entered cases symbols)
-        (run_of image.now (lent_before masks levels entered cases symbols) (terms_of hints.now allowance edition way)) }
+    ensures { Ran result counts.new (lent_after masks.new levels.new entered.new cases.new symbols.new)
+        (run_of image.now (lent_before masks.old levels.old entered.old cases.old symbols.old) (terms_of hints.now allowance edition way)) }
 {
     let made = checker::run::run(
         image, masks, levels, entered, cases, symbols, hints, allowance, edition, way,
@@ -156,8 +156,8 @@ pub extern "C" fn afa_begin(
     way: u64,
     numbers: &mut [u64; 8],
 ) -> u64
-    ensures { BeginGave result numbers.new (lent_after masks levels entered cases symbols)
-        (begin_of image.now (lent_before masks levels entered cases symbols) (terms_of hints.now 0 edition way)) }
+    ensures { BeginGave result numbers.new (lent_after masks.new levels.new entered.new cases.new symbols.new)
+        (begin_of image.now (lent_before masks.old levels.old entered.old cases.old symbols.old) (terms_of hints.now 0 edition way)) }
 {
     let left = checker::begin::begin(
         image, masks, levels, entered, cases, symbols, hints, edition, way,
@@ -181,9 +181,9 @@ pub extern "C" fn afa_step(
     way: u64,
     numbers: &mut [u64; 8],
 ) -> u64
-    ensures { StepGave numbers.old result numbers.new (lent_after masks levels entered cases symbols)
+    ensures { StepGave numbers.old result numbers.new (lent_after masks.new levels.new entered.new cases.new symbols.new)
         (step_of image.now (terms_of hints.now allowance edition way)
-        (record { tables = lent_before masks levels entered cases symbols; run = record_from numbers.old })) }
+        (record { tables = lent_before masks.old levels.old entered.old cases.old symbols.old; run = record_from numbers.old })) }
 {
     let before = *numbers;
     let mut kept = record_from(before);
@@ -205,7 +205,7 @@ pub extern "C" fn afa_why(
     case: u64,
     found: &mut [u64; 2],
 ) -> u64
-    ensures { Told result found.new (why initial (blockers_before masks levels) level case) }
+    ensures { Told result found.new (why initial (blockers_before masks.now levels.now) level case) }
 {
     *found = [0, 0];
     if 4294967295 < level {

@@ -41,7 +41,7 @@ pub fn by_states(
     x: u64,
 ) -> u64
     requires { ReadAs image.now head }
-    ensures { result ≡ by_states (system_of image.now) (blockers_before masks levels) below.0 x }
+    ensures { result ≡ by_states (system_of image.now) (blockers_before masks.now levels.now) below.0 x }
 {
     if !masks::within(head.states, x) {
         return x;

@@ -57,7 +57,7 @@ fn first_sets(
     ends: &mut [usize],
 ) -> bool
     requires { ReadAs image.now head × SymbolRoom image.now sets.old near.old ends.old × (get_or ends.old 0 0 ≡ 0) }
-    ensures { result ≡ true → GrowthBegun image.now (blockers_before masks levels) below.0 x
+    ensures { result ≡ true → GrowthBegun image.now (blockers_before masks.now levels.now) below.0 x
         sets.new near.new ends.new }
 {
     let mut count = first_place(below);
@@ -93,8 +93,8 @@ fn all_settled(
     ends: &[usize],
 ) -> bool
     requires { ReadAs image.now head
-        × Settling image.now (blockers_now masks levels) below.0 x y more before.now sets.now near.now ends.now }
-    ensures { result ≡ all_settled image.now (blockers_before masks levels) below.0 more }
+        × Settling image.now (blockers_now masks.now levels.now) below.0 x y more before.now sets.now near.now ends.now }
+    ensures { result ≡ all_settled image.now (blockers_before masks.now levels.now) below.0 more }
 {
     let mut symbol = Symbol(0);
     while symbol.0 < head.symbols {
@@ -164,9 +164,9 @@ fn keeps(
     next: &mut [u64],
 ) -> bool
     requires { ReadAs image.now head × Linked image.now x (row_count_of image.now) lasts.now links.now symbols.now
-        × Growing image.now (blockers_now masks levels) below.0 x q.0 y sets.now next.old near.now ends.now
+        × Growing image.now (blockers_now masks.now levels.now) below.0 x q.0 y sets.now next.old near.now ends.now
         × Trying image.now x q.0 y more }
-    ensures { (result ≡ passes (system_of image.now) (blockers_before masks levels) below.0 x more)
+    ensures { (result ≡ passes (system_of image.now) (blockers_before masks.now levels.now) below.0 x more)
         × (result ≡ true → SetsOf image.now more next.new) }
 {
     if masks::subset(head.initial, more) {
@@ -199,10 +199,10 @@ fn try_state(
     next: &mut [u64],
 ) -> u64
     requires { ReadAs image.now head × Linked image.now x (row_count_of image.now) lasts.now links.now symbols.now
-        × Growing image.now (blockers_now masks levels) below.0 x q.0 y sets.old next.old near.now ends.now
+        × Growing image.now (blockers_now masks.now levels.now) below.0 x q.0 y sets.old next.old near.now ends.now
         × (q.0 < states_of image.now) }
-    ensures { (result ≡ with_state (system_of image.now) (blockers_before masks levels) below.0 x q.0 y)
-        × Growing image.now (blockers_before masks levels) below.0 x (q.0 + 1) result
+    ensures { (result ≡ with_state (system_of image.now) (blockers_before masks.now levels.now) below.0 x q.0 y)
+        × Growing image.now (blockers_before masks.now levels.now) below.0 x (q.0 + 1) result
         sets.new next.new near.now ends.now }
 {
     if masks::member(q, x) {
@@ -236,9 +236,9 @@ fn try_states(
     next: &mut [u64],
 ) -> u64
     requires { ReadAs image.now head × Linked image.now x (row_count_of image.now) lasts.now links.now symbols.now
-        × GrowthBegun image.now (blockers_now masks levels) below.0 x sets.old near.now ends.now
+        × GrowthBegun image.now (blockers_now masks.now levels.now) below.0 x sets.old near.now ends.now
         × T (within (states_of image.now) x) × (symbols_of image.now ≤ length next.old) }
-    ensures { result ≡ by_states (system_of image.now) (blockers_before masks levels) below.0 x }
+    ensures { result ≡ by_states (system_of image.now) (blockers_before masks.now levels.now) below.0 x }
 {
     let mut y = x;
     let mut q = State(0);
@@ -269,9 +269,9 @@ fn grow_in(
     symbols: &mut [u8],
 ) -> u64
     requires { ReadAs image.now head × Linked image.now x 0 lasts.old links.old symbols.old
-        × GrowthBegun image.now (blockers_now masks levels) below.0 x sets.old near.now ends.now
+        × GrowthBegun image.now (blockers_now masks.now levels.now) below.0 x sets.old near.now ends.now
         × T (within (states_of image.now) x) × (symbols_of image.now ≤ length next.old) }
-    ensures { result ≡ by_states (system_of image.now) (blockers_before masks levels) below.0 x }
+    ensures { result ≡ by_states (system_of image.now) (blockers_before masks.now levels.now) below.0 x }
 {
     link_rows(image, head, x, lasts, links, symbols);
     try_states(
@@ -293,9 +293,9 @@ fn grow_short(
     next: &mut [u64],
 ) -> u64
     requires { ReadAs image.now head × (row_count_of image.now < 512)
-        × GrowthBegun image.now (blockers_now masks levels) below.0 x sets.old near.now ends.now
+        × GrowthBegun image.now (blockers_now masks.now levels.now) below.0 x sets.old near.now ends.now
         × T (within (states_of image.now) x) × (symbols_of image.now ≤ length next.old) }
-    ensures { result ≡ by_states (system_of image.now) (blockers_before masks levels) below.0 x }
+    ensures { result ≡ by_states (system_of image.now) (blockers_before masks.now levels.now) below.0 x }
 {
     let mut lasts = [0u16; 65];
     let mut links = [0u16; SHORT_TABLE];
@@ -331,9 +331,9 @@ fn grow_long(
     next: &mut [u64],
 ) -> u64
     requires { ReadAs image.now head
-        × GrowthBegun image.now (blockers_now masks levels) below.0 x sets.old near.now ends.now
+        × GrowthBegun image.now (blockers_now masks.now levels.now) below.0 x sets.old near.now ends.now
         × T (within (states_of image.now) x) × (symbols_of image.now ≤ length next.old) }
-    ensures { result ≡ by_states (system_of image.now) (blockers_before masks levels) below.0 x }
+    ensures { result ≡ by_states (system_of image.now) (blockers_before masks.now levels.now) below.0 x }
 {
     let mut lasts = [0u16; 65];
     let mut links = [0u16; 4096];
@@ -369,9 +369,9 @@ fn grow_begun(
     next: &mut [u64],
 ) -> u64
     requires { ReadAs image.now head
-        × GrowthBegun image.now (blockers_now masks levels) below.0 x sets.old near.now ends.now
+        × GrowthBegun image.now (blockers_now masks.now levels.now) below.0 x sets.old near.now ends.now
         × T (within (states_of image.now) x) × (symbols_of image.now ≤ length next.old) }
-    ensures { result ≡ by_states (system_of image.now) (blockers_before masks levels) below.0 x }
+    ensures { result ≡ by_states (system_of image.now) (blockers_before masks.now levels.now) below.0 x }
 {
     if head.rows < SHORT_ROWS {
         return grow_short(image, head, masks, levels, below, x, near, ends, sets, next);
@@ -389,7 +389,7 @@ pub(crate) fn by_tables(
     x: u64,
 ) -> u64
     requires { ReadAs image.now head × T (within (states_of image.now) x) }
-    ensures { result ≡ by_states (system_of image.now) (blockers_before masks levels) below.0 x }
+    ensures { result ≡ by_states (system_of image.now) (blockers_before masks.now levels.now) below.0 x }
 {
     let mut sets = [0u64; 64];
     let mut near = [0u64; LISTED_COVERS];

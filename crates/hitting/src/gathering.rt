@@ -99,7 +99,7 @@ fn with_rows(
 // The set b of a symbol whose backward set of x is p.
 fn cover(head: Head, masks: &[u64], levels: &[u32], below: Level, x: u64, p: u64) -> u64
     requires { (1 ≤ head.states) × (head.states ≤ 64) }
-    ensures { result ≡ cover_set head.states head.initial (blockers_before masks levels) below.0 x p }
+    ensures { result ≡ cover_set head.states head.initial (blockers_before masks.now levels.now) below.0 x p }
 {
     if masks::subset(p, x) {
         return x;
@@ -127,9 +127,9 @@ fn with_symbol(
 ) -> usize
     requires { ReadAs image.now head × (symbol.0 < symbols_of image.now)
         × HasRoom count sets.old slots.old links.old
-        (with_symbol (system_of image.now) (rows_of image.now) (blockers_now masks levels) below.0 x (take count sets.old) symbol.0) }
+        (with_symbol (system_of image.now) (rows_of image.now) (blockers_now masks.now levels.now) below.0 x (take count sets.old) symbol.0) }
     ensures { Filled (with_symbol (system_of image.now) (rows_of image.now)
-        (blockers_before masks levels) below.0 x (take count sets.old) symbol.0) result sets.new slots.new links.new }
+        (blockers_before masks.now levels.now) below.0 x (take count sets.old) symbol.0) result sets.new slots.new links.new }
 {
     let p = backward(image, symbol, x).set;
     let b = cover(head, masks, levels, below, x, p);
@@ -150,9 +150,9 @@ pub(crate) fn gather(
     links: &mut [u16],
 ) -> usize
     requires { ReadAs image.now head
-        × HasRoom 0 sets.old slots.old links.old (to_meet (system_of image.now) (rows_of image.now) (blockers_now masks levels) below.0 x) }
+        × HasRoom 0 sets.old slots.old links.old (to_meet (system_of image.now) (rows_of image.now) (blockers_now masks.now levels.now) below.0 x) }
     ensures { Gathered (to_meet (system_of image.now) (rows_of image.now)
-        (blockers_before masks levels) below.0 x) result sets.new }
+        (blockers_before masks.now levels.now) below.0 x) result sets.new }
 {
     let mut count = with_set(sets, slots, links, 0, masks::without(head.initial, x));
     let mut symbol = Symbol(0);

@@ -30,7 +30,7 @@ fn grow_in(
     requires { ReadAs image.now head × (row_count_of image.now < length sets.old) × (length sets.old < 65536)
         × (length sets.old ≤ length links.old) × (1 ≤ length slots.old) × (slots.old ≡ replicate (length slots.old) 0) }
     ensures { result ≡ by_hitting_set (system_of image.now) (rows_of image.now)
-        (blockers_before masks levels) below.0 x }
+        (blockers_before masks.now levels.now) below.0 x }
 {
     let count = gathering::gather(image, head, masks, levels, below, x, sets, slots, links);
     let picked = picking::pick(head.states, sets, count);
@@ -41,7 +41,7 @@ fn grow_in(
 fn grow_short(image: &[u8], head: Head, masks: &[u64], levels: &[u32], below: Level, x: u64) -> u64
     requires { ReadAs image.now head × (row_count_of image.now < 512) }
     ensures { result ≡ by_hitting_set (system_of image.now) (rows_of image.now)
-        (blockers_before masks levels) below.0 x }
+        (blockers_before masks.now levels.now) below.0 x }
 {
     let mut sets = [0u64; SHORT_TABLE];
     let mut slots = [0u16; SHORT_TABLE];
@@ -55,7 +55,7 @@ fn grow_short(image: &[u8], head: Head, masks: &[u64], levels: &[u32], below: Le
 fn grow_long(image: &[u8], head: Head, masks: &[u64], levels: &[u32], below: Level, x: u64) -> u64
     requires { ReadAs image.now head }
     ensures { result ≡ by_hitting_set (system_of image.now) (rows_of image.now)
-        (blockers_before masks levels) below.0 x }
+        (blockers_before masks.now levels.now) below.0 x }
 {
     let mut sets = [0u64; 4097];
     let mut slots = [0u16; 4096];
@@ -69,7 +69,7 @@ fn grow_long(image: &[u8], head: Head, masks: &[u64], levels: &[u32], below: Lev
 pub fn grow(image: &[u8], head: Head, masks: &[u64], levels: &[u32], below: Level, x: u64) -> u64
     requires { ReadAs image.now head }
     ensures { result ≡ by_hitting_set (system_of image.now) (rows_of image.now)
-        (blockers_before masks levels) below.0 x }
+        (blockers_before masks.now levels.now) below.0 x }
 {
     if head.rows < SHORT_ROWS {
         return grow_short(image, head, masks, levels, below, x);

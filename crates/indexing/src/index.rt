@@ -67,7 +67,7 @@ fn is_covered_from(
     case: u64,
 ) -> bool
     requires { (to ≤ length masks.now) × (to ≤ length levels.now) }
-    ensures { result ≡ any (covers_case level.0 case) (blockers_from (unstamped_before masks levels) (to - from) from) }
+    ensures { result ≡ any (covers_case level.0 case) (blockers_from (unstamped_before masks.now levels.now) (to - from) from) }
 {
     let mut i = from;
     while i < to {
@@ -91,7 +91,7 @@ pub fn is_covered(
     case: u64,
 ) -> bool
     requires { Index level.0 held listed.upto listed.end masks.now levels.now low.now places.now }
-    ensures { result ≡ any (covers_case level.0 case) (blockers_from (unstamped_before masks levels) held 0) }
+    ensures { result ≡ any (covers_case level.0 case) (blockers_from (unstamped_before masks.now levels.now) held 0) }
 {
     let half = searching::low_half(case);
     let end = listed.end;

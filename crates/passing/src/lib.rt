@@ -17,7 +17,7 @@ use masks::State;
 
 // Whether p, a backward set of y, is inside y or blocked one level below.
 fn settled(initial: u64, masks: &[u64], levels: &[u32], below: Level, y: u64, p: u64) -> bool
-    ensures { result ≡ is_settled initial (blockers_before masks levels) below.0 y p }
+    ensures { result ≡ is_settled initial (blockers_before masks.now levels.now) below.0 y p }
 {
     if masks::subset(p, y) {
         return true;
@@ -35,7 +35,7 @@ fn all_settled(
     y: u64,
 ) -> bool
     requires { ReadAs image.now head }
-    ensures { result ≡ all_settled image.now (blockers_before masks levels) below.0 y }
+    ensures { result ≡ all_settled image.now (blockers_before masks.now levels.now) below.0 y }
 {
     let mut symbol = Symbol(0);
     while symbol.0 < head.symbols {
@@ -59,7 +59,7 @@ pub fn passes(
     y: u64,
 ) -> bool
     requires { ReadAs image.now head }
-    ensures { result ≡ passes_test (system_of image.now) (blockers_before masks levels) below.0 x y }
+    ensures { result ≡ passes_test (system_of image.now) (blockers_before masks.now levels.now) below.0 x y }
 {
     if !masks::subset(x, y) {
         return false;
@@ -86,7 +86,7 @@ fn with_state(
     y: u64,
 ) -> u64
     requires { ReadAs image.now head × (q.0 < states_of image.now) × Grown image.now x y }
-    ensures { result ≡ with_state (system_of image.now) (blockers_before masks levels) below.0 x q.0 y }
+    ensures { result ≡ with_state (system_of image.now) (blockers_before masks.now levels.now) below.0 x q.0 y }
 {
     if masks::member(q, x) {
         return y;
@@ -104,7 +104,7 @@ fn with_state(
 // The set that x grows to by its states, as what blocks it one level above `below`: each is tried with all backward sets.
 pub fn by_each(image: &[u8], head: Head, masks: &[u64], levels: &[u32], below: Level, x: u64) -> u64
     requires { ReadAs image.now head × T (within (states_of image.now) x) }
-    ensures { result ≡ by_states (system_of image.now) (blockers_before masks levels) below.0 x }
+    ensures { result ≡ by_states (system_of image.now) (blockers_before masks.now levels.now) below.0 x }
 {
     let mut y = x;
     let mut q = State(0);

@@ -24,8 +24,8 @@ fn rises(
     place: usize,
 ) -> bool
     requires { ReadAs image.now head × (length masks.now ≡ length levels.now) × (place < length masks.now) }
-    ensures { result ≡ rises_test (system_of image.now) (blockers_before masks levels) level.0
-        (blocker_at (unstamped_before masks levels) place) }
+    ensures { result ≡ rises_test (system_of image.now) (blockers_before masks.now levels.now) level.0
+        (blocker_at (unstamped_before masks.now levels.now) place) }
 {
     if !Level(levels[place]).equals(level) {
         return false;
@@ -53,9 +53,9 @@ fn rise_level(
     held: usize,
     level: Level,
 ) -> usize
-    requires { ReadAs image.now head × HoldsRoom held (room_now masks levels entered) × (level.0 < 4294967295) }
-    ensures { Becomes held (risen_at (system_of image.now) level.0 (table_of held (room_before masks levels entered)))
-        (room_before masks levels entered) result (room_after masks levels entered) }
+    requires { ReadAs image.now head × HoldsRoom held (room_now masks.old levels.old entered.old) × (level.0 < 4294967295) }
+    ensures { Becomes held (risen_at (system_of image.now) level.0 (table_of held (room_before masks.old levels.old entered.old)))
+        (room_before masks.old levels.old entered.old) result (room_after masks.new levels.new entered.new) }
 {
     let mut count = held;
     let mut place: usize = 0;
@@ -81,9 +81,9 @@ pub fn rise_levels(
     held: usize,
     top: Level,
 ) -> usize
-    requires { ReadAs image.now head × HoldsRoom held (room_now masks levels entered) × (top.0 < 4294967295) }
-    ensures { Becomes held (risen_by (system_of image.now) top.0 (table_of held (room_before masks levels entered)))
-        (room_before masks levels entered) result (room_after masks levels entered) }
+    requires { ReadAs image.now head × HoldsRoom held (room_now masks.old levels.old entered.old) × (top.0 < 4294967295) }
+    ensures { Becomes held (risen_by (system_of image.now) top.0 (table_of held (room_before masks.old levels.old entered.old)))
+        (room_before masks.old levels.old entered.old) result (room_after masks.new levels.new entered.new) }
 {
     let mut count = held;
     let mut level = Level(1);

@@ -29,7 +29,7 @@ fn each_covered(
     mask: u64,
 ) -> bool
     requires { ReadAs image.now head × Index level.0 held listed.upto listed.end masks.now levels.now low.now places.now }
-    ensures { result ≡ each_covered (system_of image.now) (blockers_from (unstamped_before masks levels) held 0) level.0 mask }
+    ensures { result ≡ each_covered (system_of image.now) (blockers_from (unstamped_before masks.now levels.now) held 0) level.0 mask }
 {
     let mut symbol = Symbol(0);
     while symbol.0 < head.symbols {
@@ -59,7 +59,7 @@ fn try_rise(
     requires { ReadAs image.now head × Noted held masks.now lacks.now
         × Index level.0 held listed.upto listed.end masks.now levels.old low.now places.now
         × (place < held) × (get_or levels.old place 0 < 4294967295) }
-    ensures { TriedIn (each_covered (system_of image.now) (blockers_from (unstamped_before masks levels) held 0) level.0 (get_or masks.now place 0))
+    ensures { TriedIn (each_covered (system_of image.now) (blockers_from (unstamped_before masks.now levels.old) held 0) level.0 (get_or masks.now place 0))
         place held masks.now levels.old levels.new }
 {
     let mask = masks[place];

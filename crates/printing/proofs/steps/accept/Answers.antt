@@ -1,0 +1,12 @@
+use Rattle.printing.proofs.Stepping.{accept_tested, accept_not, accept_yes, ready_short, ready_not, ready_stepped}
+use borrow.Author.Rules.{rules}
+use Rattle.printing.proofs.steps.accept.Goals as goal
+
+pub returns-then-table-word : goal.returns-then-table-word
+returns-then-table-word c = (search (accept_tested, rules), search (ready_short, rules))
+
+pub returns-then-not-subset : goal.returns-then-not-subset
+returns-then-not-subset c = (search (accept_not, rules), search (ready_not, rules))
+
+pub returns : goal.returns
+returns c = (search (accept_yes, rules), search (ready_stepped, rules))
