@@ -14,15 +14,15 @@ use lib.ListN.{
   length-append,
   length-set,
   length-replicate,
-  length_reverse,
+  length-reverse,
   replicate-append-replicate,
   take-append-drop,
 }
+use borrow.Rule.Slice.PartMut.{put_mid}
 use lib.Seq.{take-suc, drop-cons, append_snoc, set_at, set_split, length-take-le}
 use Rattle.machine.specs.Machine.{word_of}
 use Rattle.machine.specs.Lent.{WordRoom, word_room_of, pending_first, column_back, placed, with_pending, with_word}
 use Rattle.machine.proofs.LentTables.{cases_front, symbols_front, placed_exact}
-use Rattle.bytes.specs.Bytes.{rev, slice}
 use Rattle.wordroom.specs.Room.{Holds}
 
 -- a value behind the first `count` entries
@@ -145,26 +145,23 @@ word_behind cases rest first (suc count) h =
 
 -- the table with its places from 1 up to `to` in the other direction
 abbrev turned : ℕ → List ℕ → List ℕ
-turned to table = take 1 table ++ (rev (slice 1 to table) ++ drop to table)
+turned to table = take 1 table ++ (reverse (take (to - 1) (drop 1 table)) ++ drop (to - 1) (drop 1 table))
 
 -- with the given symbol in the first place they make up the word
 symbols_turned : (cases symbols : List ℕ) (count symbol : ℕ) → count ≤ length symbols → 1 ≤ count
     → turned count (set symbols 0 symbol) ≡ placed count (symbol ∷ word_of (pending_first (word_room_of cases symbols) count)) symbols
-unfolding rev slice
 symbols_turned cases symbols zero symbol room some = absurd (omega arith)
 symbols_turned cases [] (suc count) symbol room some = absurd (omega arith)
 symbols_turned cases (first ∷ rest) (suc count) symbol room some =
     let low : count ≤ length rest = omega arith in
-    let size : length (symbol ∷ reverse (take count rest)) ≡ suc count = ap suc (length_reverse (take count rest) ∙ length-take-le count rest low) in
-    rw (word_behind cases rest first count low) (sym (placed_exact (symbol ∷ reverse (take count rest)) (first ∷ rest) (suc count) size))
+    let less : suc count - 1 ≡ count = omega arith in
+    let size : length (symbol ∷ reverse (take count rest)) ≡ suc count = ap suc (length-reverse (take count rest) ∙ length-take-le count rest low) in
+    rw (less, word_behind cases rest first count low) (sym (placed_exact (symbol ∷ reverse (take count rest)) (first ∷ rest) (suc count) size))
 
--- the room after the word is written
-pub word_written : (cases symbols cases' symbols' : List ℕ) (count symbol : ℕ) → Holds count (word_room_of cases symbols) → 1 ≤ count
-    → cases' ≡ placed count [] cases → symbols' ≡ turned count (set symbols 0 symbol)
-    → word_room_of cases' symbols' ≡ with_word count (symbol ∷ word_of (pending_first (word_room_of cases symbols) count)) (word_room_of cases symbols)
+-- the room after the word is written: the part behind the first place comes back turned round
+pub word_written : (cases symbols cases' middle : List ℕ) (count symbol : ℕ) → Holds count (word_room_of cases symbols) → 1 ≤ count
+    → cases' ≡ placed count [] cases → middle ≡ reverse (take (count - 1) (drop 1 (set symbols 0 symbol)))
+    → word_room_of cases' (put_mid 1 (count - 1) (set symbols 0 symbol) middle)
+    ≡ with_word count (symbol ∷ word_of (pending_first (word_room_of cases symbols) count)) (word_room_of cases symbols)
 unfolding with_word
-word_written cases symbols cases' symbols' count symbol holds some c s = rw (c, s, symbols_turned cases symbols count symbol holds.in_symbols some)
-
--- a length kept after a store is the length before it
-pub kept_after_store : (after before : List ℕ) (at value : ℕ) → length after ≡ length (set before at value) → length after ≡ length before
-kept_after_store after before at value e = e ∙ length-set before at value
+word_written cases symbols cases' middle count symbol holds some c m = rw (c, m, symbols_turned cases symbols count symbol holds.in_symbols some)

@@ -61,5 +61,5 @@ pub fn write_word(cases: &mut [u64], symbols: &mut [u8], count: usize, symbol: S
 {
     clear_cases(cases, count);
     symbols[0] = symbol.0;
-    bytes::reverse(symbols, 1, count);
+    symbols[1..count].reverse();
 }

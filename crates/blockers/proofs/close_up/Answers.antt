@@ -14,9 +14,7 @@ pub loop-i-preserved-then-kept-i : goal.loop-i-preserved-then-kept-i
 loop-i-preserved-then-kept-i c = search (close_stands, rules)
 
 pub loop-i-preserved : goal.loop-i-preserved
-loop-i-preserved c =
-    let turn : tie.At-loop invariant-loop decreases-loop = search in
-    search (close_stays turn.loop.inv, rules)
+loop-i-preserved c = search (close_stays c.loop-i.invariant, rules)
 
 pub returns : goal.returns
 returns c = search (close_ends, rules)

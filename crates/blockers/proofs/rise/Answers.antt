@@ -7,20 +7,7 @@ put-requires c = search (rise_room, rules)
 
 pub close_up-end-requires : goal.close_up-end-requires
 close_up-end-requires c =
-    let risen : tie.After-put = search in
-    let passed : tie.After-close-up = search in
-    let read : tie.After-above = search in
-    let start : tie.Start = search in (
-      search (start.pre, rules),
-      search (start.pre, rules),
-      rise_behind start.pre read.above.ensures passed.close_up.ensures _ risen.put.ensures,
-    )
+    (search rules, search rules, rise_behind c.requires c.above-level.ensures c.close_up-stands.ensures _ c.put.ensures)
 
 pub returns : goal.returns
-returns c =
-    let closed : tie.After-close-up2 = search in
-    let risen : tie.After-put = search in
-    let passed : tie.After-close-up = search in
-    let read : tie.After-above = search in
-    let start : tie.Start = search in
-    rises_at start.pre read.above.ensures passed.close_up.ensures risen.put.ensures closed.close-up2.ensures
+returns c = rises_at c.requires c.above-level.ensures c.close_up-stands.ensures c.put.ensures c.close_up-end.ensures

@@ -13,10 +13,10 @@ pub bounds-symbols-row : goal.bounds-symbols-row
 bounds-symbols-row c = search (fire_symbol, rules)
 
 pub overflow_mul-row : goal.overflow_mul-row
-overflow_mul-row c = let small = fire_fits c.before.before.before.loop.invariant c.before.before.loop-test.true in omega (arith, small)
+overflow_mul-row c = let small = fire_fits c.loop-number.invariant c.loop-number-test.true in omega (arith, small)
 
 pub overflow_add-start-in-loop-number : goal.overflow_add-start-in-loop-number
-overflow_add-start-in-loop-number c = let small = fire_fits c.before.before.before.loop.invariant c.before.before.loop-test.true in omega (arith, small)
+overflow_add-start-in-loop-number c = let small = fire_fits c.loop-number.invariant c.loop-number-test.true in omega (arith, small)
 
 pub with_row-requires : goal.with_row-requires
 with_row-requires c = search (fire_stands, fire_place, rules)

@@ -15,4 +15,4 @@ pub loop-i-preserved : goal.loop-i-preserved
 loop-i-preserved c = search (filling_next, rules)
 
 pub returns : goal.returns
-returns c = (search (filled_back, rules), search (filled_table, rules))
+returns c = record { back = search (filled_back, rules); sets = search (filled_table, rules) }

@@ -21,4 +21,4 @@ pub loop-i-preserved : goal.loop-i-preserved
 loop-i-preserved c = search (stepping_next, rules)
 
 pub returns : goal.returns
-returns c = (search (stepped_last, rules), search (stepped_table, rules))
+returns c = record { last = search (stepped_last, rules); cases = search (stepped_table, rules) }
