@@ -76,7 +76,7 @@ record Stands (sets : List ℕ) (one : ℕ) : Type 0 where
   below : place < length sets
   is : get_or sets place 0 ≡ one
 
-stands : {sets : List ℕ} {one : ℕ} → one ∈ sets → Stands sets one
+stands : {one : ℕ} {sets : List ℕ} → one ∈ sets → Stands sets one
 stands (here e) = record { place = 0; below = omega arith; is = sym e }
 stands (there m) = let s = stands m in record { place = suc s.place; below = omega (arith, s.below); is = s.is }
 

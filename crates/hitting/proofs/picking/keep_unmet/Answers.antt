@@ -1,0 +1,16 @@
+use Prim.Native.Nat.{◌-◌}
+use Rattle.hitting.proofs.Picks.{ClosingUp, unmet_starts, unmet_leaves, unmet_stays, unmet_ends}
+use borrow.Author.Rules.{rules}
+use Rattle.hitting.proofs.picking.keep_unmet.Goals as goal
+
+pub loop-i-init : goal.loop-i-init
+loop-i-init c = search (unmet_starts, rules)
+
+pub loop-i-preserved-then-member : goal.loop-i-preserved-then-member
+loop-i-preserved-then-member c = search (unmet_leaves, rules)
+
+pub loop-i-preserved : goal.loop-i-preserved
+loop-i-preserved c = search (unmet_stays, rules)
+
+pub returns : goal.returns
+returns c = search (unmet_ends, rules)

@@ -1,0 +1,15 @@
+use borrow.Author.Rules.{rules}
+use Prim.Native.Nat.{◌-◌}
+use lib.Dec.{eqb}
+use Rattle.indexing.proofs.Finding.{passes_one, finds_next, finds_none}
+use Rattle.indexing.specs.Index.{Passed}
+use Rattle.indexing.proofs.searching.next_at.Goals as goal
+
+pub returns-then-equals : goal.returns-then-equals
+returns-then-equals c = search (finds_next, rules)
+
+pub loop-i-preserved : goal.loop-i-preserved
+loop-i-preserved c = search (passes_one, rules)
+
+pub returns : goal.returns
+returns c = search (finds_none, rules)

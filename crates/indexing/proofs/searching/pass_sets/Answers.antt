@@ -1,0 +1,22 @@
+use borrow.Author.Rules.{rules}
+use Prim.Native.Nat.{◌-◌}
+use lib.ListN.{length}
+use Rattle.masks.specs.Sets.{subset}
+use Rattle.indexing.proofs.Finding.{passes_begin, passes_to, passes_all, passes_block}
+use Rattle.indexing.specs.Index.{Passed}
+use Rattle.indexing.proofs.searching.pass_sets.Goals as goal
+
+pub loop-i-init : goal.loop-i-init
+loop-i-init c = search (passes_begin, rules)
+
+pub returns-then-low-i-lt16 : goal.returns-then-low-i-lt16
+returns-then-low-i-lt16 c = search (passes_to, rules)
+
+pub returns-then-sixteen_contain : goal.returns-then-sixteen_contain
+returns-then-sixteen_contain c = search (passes_to, rules)
+
+pub loop-i-preserved : goal.loop-i-preserved
+loop-i-preserved c = search (passes_block, rules)
+
+pub returns : goal.returns
+returns c = search (passes_all, rules)
