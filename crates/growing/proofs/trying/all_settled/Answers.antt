@@ -1,0 +1,23 @@
+use borrow.Author.Rules.{rules}
+use Prim.Native.Nat.{◌-◌}
+use Rattle.machine.specs.Machine.{settled}
+use Rattle.machine.specs.Lent.{blockers_in}
+use Rattle.automata.proofs.EachSymbol.{EachTried, each_starts}
+use Rattle.passing.proofs.Passing.{all_ends}
+use Rattle.growing.proofs.Settles.{settle_told, settle_same, settle_goes, settle_fails}
+use Rattle.growing.proofs.trying.all_settled.Goals as goal
+
+pub loop-symbol-init : goal.loop-symbol-init
+loop-symbol-init c = search (each_starts, rules)
+
+pub settled_anew-requires : goal.settled_anew-requires
+settled_anew-requires c = search (settle_told, settle_same, rules)
+
+pub returns-then-not-settled_anew : goal.returns-then-not-settled_anew
+returns-then-not-settled_anew c = search (settle_fails, rules)
+
+pub loop-symbol-preserved : goal.loop-symbol-preserved
+loop-symbol-preserved c = search (settle_goes, rules)
+
+pub returns : goal.returns
+returns c = search (all_ends, rules)

@@ -1,0 +1,16 @@
+use borrow.Author.Rules.{rules}
+use Prim.Native.Nat.{◌-◌}
+use Rattle.growing.proofs.Copies.{Copying, copy_starts, copy_goes, copy_place, copy_ends}
+use Rattle.growing.proofs.trying.copy.Goals as goal
+
+pub loop-i-init : goal.loop-i-init
+loop-i-init c = search (copy_starts, rules)
+
+pub bounds-to-i : goal.bounds-to-i
+bounds-to-i c = search (copy_place, rules)
+
+pub loop-i-preserved : goal.loop-i-preserved
+loop-i-preserved c = search (copy_goes, copy_place, rules)
+
+pub returns : goal.returns
+returns c = search (copy_ends, rules)
