@@ -9,4 +9,3 @@ pub mod Starting
 pub mod Going
 pub mod Checking
 pub mod Calling
-pub mod Walk

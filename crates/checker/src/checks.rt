@@ -31,7 +31,7 @@ pub(crate) fn check_terms(
     edition: u64,
     way: u64,
 ) -> u8
-    ensures { result ≡ check_terms (lent_before masks levels entered cases symbols) hints.now edition way 0 }
+    ensures { result ≡ check_terms (lent_before masks.now levels.now entered.now cases.now symbols.now) hints.now edition way 0 }
 {
     if masks.len() != levels.len() {
         return 30;
