@@ -1,0 +1,7 @@
+use Rattle.lists.specs.Tests.{neg}
+use borrow.Author.Rules.{rules}
+use Rattle.exports.proofs.record_from.Goals as goal
+
+pub returns : goal.returns
+unfolding neg
+returns c = search rules
