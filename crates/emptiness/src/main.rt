@@ -1,12 +1,14 @@
 // The program: reads an image from standard input, decides emptiness, and prints the five numbers of the run and then the frame or the word.
 // Proved of it is which bytes it makes of those that it has read (`report`); that it reads and writes them is tried by running.
 #![tactic(auto)]
-ghost use Rattle.std.specs.Prelude.{◌≡◌, ◌≤◌, length};
+ghost use Rattle.std.specs.Prelude.{◌≡◌, ◌≤◌, length, IfOk};
 ghost use Rattle.automata.specs.Answers.{image_number};
 ghost use Rattle.writing.specs.Rooms.{answer_of, fitted_bytes};
 ghost use Rattle.machine.specs.Program.{program_prints};
 
 use automata::image::Image;
+use std::io;
+use std::io::{ErrorKind, Read, Write};
 use writing::Written;
 
 // The number of an image that was taken apart: 0 for one that holds an automaton.
@@ -54,13 +56,35 @@ fn report(image: &[u8], room: &mut [u8]) -> Written
     reporting::lines(run, &masks, &symbols, room)
 }
 
-fn main() {
+// Fills the bytes from the input, as far as it goes; answers how many were read.
+fn read_full<R: Read>(input: &mut R, bytes: &mut [u8]) -> io::Result<usize>
+    ensures { IfOk result (λ size. size ≤ length bytes.new) }
+{
+    let mut size = 0;
+    for _ in 0..u64::MAX {
+        if size >= bytes.len() {
+            break;
+        }
+        match input.read(&mut bytes[size..]) {
+            Ok(0) => break,
+            Ok(more) => size += more,
+            Err(error) => {
+                if error.kind() != ErrorKind::Interrupted {
+                    return Err(error);
+                }
+            }
+        }
+    }
+    Ok(size)
+}
+
+fn main(rt: HostRuntime) -> io::Result<()> {
     // One byte more than the longest image has, so that a longer input is refused.
     let mut bytes = [0u8; 37397];
-    let size = io::read_full(0, &mut bytes);
+    let size = read_full(&mut rt.stdin(), &mut bytes)?;
     // Enough for every output: each number has at most 20 digits and a space, five stand on the first line and at most 256 on the second, and each line has a
     // newline.
     let mut room = [0u8; 5483];
     let made = report(&bytes[..size], &mut room);
-    io::write_all(1, &room[..made.length]);
+    rt.stdout().write_all(&room[..made.length])
 }
