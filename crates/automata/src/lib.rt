@@ -1,5 +1,6 @@
 // The image of an alternating automaton: its checks, its backward sets, the steps of a picked run, and the test of a word.
 #![tactic(auto)]
+
 mod bytes; // bytes.rt: little-endian numbers
 pub mod image; // image.rt: checks 20 to 27, and the head
 pub mod rows; // rows.rt: where a symbol's rows stand, and one of them

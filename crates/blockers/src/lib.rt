@@ -1,6 +1,7 @@
 // The blocker room: three lent tables, masks, levels and the steps with which the blockers entered, of which the first `held` places are in use. What only
 // asks is lent masks and levels alone.
 #![tactic(auto)]
+
 pub mod reasons; // reasons.rt: why a case is blocked at a level
 pub mod sizes; // sizes.rt: from which sizes on tables of one's own pay
 

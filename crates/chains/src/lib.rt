@@ -1,6 +1,7 @@
 // Numbers in chains, by a key that each has: one table tells for each key the last number that has it, a second for each number the one before it with the
 // same key. Numbers are told with 1 added, and 0 ends a chain. Assumes nothing.
 #![tactic(auto)]
+
 ghost use Rattle.std.specs.Prelude.{◌≡◌, ◌+◌, ◌<◌, length, get_or, set as put};
 
 fn wide(number: u16) -> usize

@@ -1,5 +1,6 @@
 // The checker: runs of the machine, at once and one step after the other.
 #![tactic(auto)]
+
 pub mod begin; // begin.rt: the begin of a run, for every input
 pub mod checks; // checks.rt: what is refused after the image
 pub mod record; // record.rt: what a run carries from step to step

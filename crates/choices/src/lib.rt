@@ -1,6 +1,7 @@
 // The machine's choices: the symbol that extends a pending case, and the set that blocks it. Masks and levels are the part of the blocker room that is in
 // use.
 #![tactic(auto)]
+
 ghost use Rattle.std.specs.Prelude.{◌≡◌, length};
 ghost use Rattle.lists.specs.Lists.{first_from};
 ghost use Rattle.automata.specs.Image.{symbols_of, rows_of};

@@ -1,5 +1,6 @@
 // The close: at each level the blockers that can rise do so, and then the lowest level that holds none is looked for.
 #![tactic(auto)]
+
 mod vacancy; // vacancy.rt: the lowest level that holds no blocker
 
 ghost use Rattle.std.specs.Prelude.{◌≤◌, ◌<◌, length};

@@ -1,5 +1,6 @@
 // The blockers that cover a set, listed once by their masks: what covers a larger set is among them, and they are few. Assumes nothing.
 #![tactic(auto)]
+
 ghost use Rattle.std.specs.Prelude.{◌≡◌, true, ◌-◌, ◌≤◌, ◌<◌, length};
 ghost use Rattle.machine.specs.Machine.{blocked, settled as is_settled};
 ghost use Rattle.machine.specs.Lent.{blocker_at};

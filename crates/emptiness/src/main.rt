@@ -1,6 +1,7 @@
 // The program: reads an image from standard input, decides emptiness, and prints the five numbers of the run and then the frame or the word.
 // Proved of it is which bytes it makes of those that it has read (`report`); that it reads and writes them is tried by running.
 #![tactic(auto)]
+
 ghost use Rattle.std.specs.Prelude.{◌≡◌, ◌≤◌, length, IfOk};
 ghost use Rattle.automata.specs.Answers.{image_number};
 ghost use Rattle.writing.specs.Rooms.{answer_of, fitted_bytes};

@@ -1,5 +1,6 @@
 // The library's functions for C and Rust, as include/afa.h declares them.
 #![tactic(auto)]
+
 ghost use Rattle.std.specs.Prelude.{◌≡◌};
 ghost use Rattle.automata.specs.Answers.{read_image, image_number, head_after};
 ghost use Rattle.automata.specs.WordTest.{word_test};

@@ -1,6 +1,7 @@
 // Growth by states: the set that a case grows to when its states are tried in order. Where rows or blockers are many it works in tables of its own. Masks and
 // levels are the part of the blocker room that is in use. Assumes nothing.
 #![tactic(auto)]
+
 mod trying; // trying.rt: the growth by states over tables
 
 ghost use Rattle.std.specs.Prelude.{◌≡◌};

@@ -1,5 +1,6 @@
 // The second way to grow a blocker: through a hitting set. The sets that are to be met stand in a table on the stack, one at most for each row and one for I.
 #![tactic(auto)]
+
 use automata::image::Head;
 use blockers::Level;
 use blockers::sizes::{SHORT_ROWS, SHORT_TABLE};

@@ -1,5 +1,6 @@
 // Sets of states as masks of 64 bits: bit q stands for state q.
 #![tactic(auto)]
+
 ghost use Rattle.std.specs.Prelude.{◌≡◌, false, ◌≤◌, ◌<◌};
 ghost use Rattle.std.proofs.Math.Option.{some};
 ghost use Rattle.lists.specs.Tests.{choose};

@@ -1,6 +1,7 @@
 // Whether a set passes, and the growth by states that tries each with all backward sets. Masks and levels are the part of the blocker room that is in use.
 // Assumes nothing.
 #![tactic(auto)]
+
 ghost use Rattle.std.specs.Prelude.{◌≡◌, ◌<◌, T};
 ghost use Rattle.masks.specs.Sets.{within};
 ghost use Rattle.automata.specs.Image.{states_of};

@@ -1,5 +1,6 @@
 // What the tests ask of functions that the C interface does not have. include/afa.h does not declare it, and the library's archive does not hold it.
 #![tactic(auto)]
+
 ghost use Rattle.std.specs.Prelude.{◌≡◌};
 ghost use Rattle.automata.specs.Answers.{read_image};
 ghost use Rattle.probes.specs.Walks.{walk_number, walked_after};

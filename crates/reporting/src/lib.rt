@@ -1,5 +1,6 @@
 // The two lines of a run, as 01's program prints them, in a lent room. Their bytes are counted first, and written only if they fit.
 #![tactic(auto)]
+
 ghost use Rattle.std.specs.Prelude.{◌≡◌, ◌+◌, ◌*◌, ◌^◌, ◌≤◌, ◌<◌, min, max, length, take};
 ghost use Rattle.writing.specs.Lines.{numbers_line, text_of};
 ghost use Rattle.writing.specs.Rooms.{answer_of, fitted_bytes};

@@ -1,6 +1,7 @@
 // The rises as 01 says them: each blocker's backward sets are asked of the whole table, and the table closes up at each rise. Where few blockers are held
 // nothing is faster, and it is the way for tables that no run made.
 #![tactic(auto)]
+
 ghost use Rattle.std.specs.Prelude.{◌≡◌, ◌<◌, length};
 ghost use Rattle.automata.specs.Answers.{ReadAs};
 ghost use Rattle.machine.specs.Machine.{rises as rises_test};

@@ -1,6 +1,7 @@
 // The rises of a close by an index of the blockers that may cover. A blocker that leaves sinks to level 0 where it stands, so that nothing closes up before
 // all have risen. So no blocker may be of level 0 before.
 #![tactic(auto)]
+
 ghost use Rattle.std.specs.Prelude.{◌≡◌, ◌≤◌, ◌<◌, length, get_or};
 ghost use Rattle.automata.specs.Answers.{ReadAs};
 ghost use Rattle.machine.specs.Lent.{blockers_from};

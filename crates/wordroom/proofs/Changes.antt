@@ -4,20 +4,7 @@ use mathlib.Core.Path.{◌≡◌, refl, sym, ap, ◌∙◌}
 use mathlib.Core.List.{List, [], ◌∷◌, ◌++◌, append-nil, reverse, reverse-append}
 use native.Mathlib.Numerals.{add-one}
 use native.Mathlib.Omega.{arith}
-use lib.ListN.{
-  length,
-  get_or,
-  take,
-  drop,
-  set,
-  replicate,
-  length-append,
-  length-set,
-  length-replicate,
-  length-reverse,
-  replicate-append-replicate,
-  take-append-drop,
-}
+use lib.ListN.{length, get_or, take, drop, set, replicate, length-append, length-set, length-replicate, length-reverse, replicate-append-replicate}
 use borrow.Rule.Slice.PartMut.{put_mid}
 use lib.Seq.{take-suc, drop-cons, append_snoc, set_at, set_split, length-take-le}
 use Rattle.machine.specs.Machine.{word_of}

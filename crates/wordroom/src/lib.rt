@@ -1,6 +1,7 @@
 // The word room: two lent tables, pending cases and the symbols that led to them, of which the first `count` places are in use, the highest level first.
 // A place that becomes free holds 0, and what lies behind the places in use stays as it is. Assumes nothing.
 #![tactic(auto)]
+
 ghost use Rattle.std.specs.Prelude.{◌≡◌, ◌+◌, ◌-◌, ◌≤◌, [], ◌∷◌, length};
 ghost use Rattle.machine.specs.Machine.{word_of};
 ghost use Rattle.machine.specs.Lent.{pending_first, placed, with_pending, with_word};

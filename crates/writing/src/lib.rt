@@ -1,6 +1,7 @@
 // Bytes into a lent room: one byte, a number in decimal, digit by digit, most significant first, or a line of numbers. A byte that has no place in the room is
 // not written, so a room without places serves to count.
 #![tactic(auto)]
+
 ghost use Rattle.std.specs.Prelude.{◌≡◌, [], ◌∷◌, ◌+◌, ◌*◌, ◌^◌, ◌≤◌, ◌<◌, length};
 ghost use Rattle.std.proofs.lemmas.List.Edits.{sets};
 ghost use Rattle.writing.specs.Decimal.{digits};

@@ -1,7 +1,5 @@
 use borrow.Author.Rules.{rules}
-use Prim.Native.Nat.{◌-◌}
-use Rattle.machine.specs.Lent.{room_of}
-use Rattle.blockers.proofs.Closing.{Clearing, clear_starts, clear_goes, clear_ends}
+use Rattle.blockers.proofs.Closing.{clear_starts, clear_goes, clear_ends}
 use Rattle.blockers.proofs.clear_between.Goals as goal
 
 pub loop-i-init : goal.loop-i-init

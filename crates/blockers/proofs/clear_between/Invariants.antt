@@ -1,7 +1,6 @@
-use borrow.Author.Rules.{rules}
 use Prim.Native.Nat.{◌-◌}
 use Rattle.machine.specs.Lent.{room_of}
-use Rattle.blockers.proofs.Closing.{Clearing, clear_starts, clear_goes, clear_ends}
+use Rattle.blockers.proofs.Closing.{Clearing}
 use Rattle.blockers.proofs.clear_between.Given as goal
 
 abbrev pub invariant-loop-i : goal.invariant-loop-i
@@ -9,4 +8,3 @@ invariant-loop-i l = Clearing l.from l.to l.i (room_of l.initial.masks l.initial
 
 abbrev pub decreases-loop-i : goal.decreases-loop-i
 decreases-loop-i l = l.to - l.i
-

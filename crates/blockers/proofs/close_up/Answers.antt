@@ -1,7 +1,5 @@
 use borrow.Author.Rules.{rules}
-use Prim.Native.Nat.{◌-◌}
-use Rattle.machine.specs.Lent.{room_of, blocker_of}
-use Rattle.blockers.proofs.Closing.{ClosingUp, close_starts, close_leaves, close_stands, close_stays, close_ends}
+use Rattle.blockers.proofs.Closing.{close_starts, close_leaves, close_stands, close_stays, close_ends}
 use Rattle.blockers.proofs.close_up.Goals as goal
 
 pub loop-i-init : goal.loop-i-init

@@ -1,7 +1,6 @@
-use borrow.Author.Rules.{rules}
 use Prim.Native.Nat.{◌-◌}
 use Rattle.machine.specs.Lent.{room_of, blocker_of}
-use Rattle.blockers.proofs.Closing.{ClosingUp, close_starts, close_leaves, close_stands, close_stays, close_ends}
+use Rattle.blockers.proofs.Closing.{ClosingUp}
 use Rattle.blockers.proofs.close_up.Given as goal
 
 abbrev pub invariant-loop-i : goal.invariant-loop-i
@@ -9,4 +8,3 @@ invariant-loop-i l = ClosingUp (blocker_of l.mask l.level.0) l.start l.from l.to
 
 abbrev pub decreases-loop-i : goal.decreases-loop-i
 decreases-loop-i l = l.to - l.i
-

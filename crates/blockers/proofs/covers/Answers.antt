@@ -1,5 +1,4 @@
 use Rattle.machine.specs.Machine.{covers}
-use borrow.Author.Rules.{rules}
 use Rattle.blockers.proofs.covers.Goals as goal
 
 pub returns : goal.returns

@@ -1,7 +1,4 @@
-use Rattle.blockers.proofs.Walks.{FoursLooked, fours_start, fours_find, fours_go, fours_rest}
-use Prim.Native.Nat.{◌-◌}
-use lib.ListN.{length}
-use lib.Dec.{eqb}
+use Rattle.blockers.proofs.Walks.{fours_start, fours_find, fours_go, fours_rest}
 use borrow.Author.Rules.{rules}
 use Rattle.blockers.proofs.none_at.Goals as goal
 

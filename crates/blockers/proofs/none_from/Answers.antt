@@ -1,7 +1,4 @@
-use Rattle.blockers.proofs.Walks.{Looked, look_starts, look_finds, look_goes, look_ends}
-use Prim.Native.Nat.{◌-◌}
-use lib.ListN.{length}
-use lib.Dec.{eqb}
+use Rattle.blockers.proofs.Walks.{look_starts, look_finds, look_goes, look_ends}
 use borrow.Author.Rules.{rules}
 use Rattle.blockers.proofs.none_from.Goals as goal
 

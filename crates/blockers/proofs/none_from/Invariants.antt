@@ -1,8 +1,7 @@
-use Rattle.blockers.proofs.Walks.{Looked, look_starts, look_finds, look_goes, look_ends}
+use Rattle.blockers.proofs.Walks.{Looked}
 use Prim.Native.Nat.{◌-◌}
 use lib.ListN.{length}
 use lib.Dec.{eqb}
-use borrow.Author.Rules.{rules}
 use Rattle.blockers.proofs.none_from.Given as goal
 
 abbrev pub invariant-loop-i : goal.invariant-loop-i
@@ -10,4 +9,3 @@ invariant-loop-i l = Looked (λ other. eqb other l.level.0) l.levels l.from l.i
 
 abbrev pub decreases-loop-i : goal.decreases-loop-i
 decreases-loop-i l = length l.levels - l.i
-

@@ -1,5 +1,4 @@
 use mathlib.Core.Path.{refl}
-use borrow.Author.Rules.{rules}
 use Rattle.blockers.specs.Room.{put_at}
 use Rattle.blockers.proofs.put.Goals as goal
 

@@ -1,7 +1,5 @@
-use Prim.Native.Nat.{◌-◌}
-use lib.ListN.{length}
-use Rattle.choices.proofs.Symbols.{SymbolsTried, tried_none, symbol_known, tried_all, try_inside, try_lacking, find_bottom, try_covered, find_open}
-use Rattle.choices.proofs.Symbols.{BlockersTried, tried_starts, tried_goes}
+use Rattle.choices.proofs.Symbols.{tried_none, symbol_known, tried_all, try_inside, try_lacking, find_bottom, try_covered, find_open}
+use Rattle.choices.proofs.Symbols.{tried_starts, tried_goes}
 use borrow.Author.Rules.{rules}
 use Rattle.choices.proofs.first_symbol.Goals as goal
 

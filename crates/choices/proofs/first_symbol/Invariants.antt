@@ -1,8 +1,7 @@
 use Prim.Native.Nat.{◌-◌}
 use lib.ListN.{length}
-use Rattle.choices.proofs.Symbols.{SymbolsTried, tried_none, symbol_known, tried_all, try_inside, try_lacking, find_bottom, try_covered, find_open}
-use Rattle.choices.proofs.Symbols.{BlockersTried, tried_starts, tried_goes}
-use borrow.Author.Rules.{rules}
+use Rattle.choices.proofs.Symbols.{SymbolsTried}
+use Rattle.choices.proofs.Symbols.{BlockersTried}
 use Rattle.choices.proofs.first_symbol.Given as goal
 
 abbrev pub invariant-loop-i : goal.invariant-loop-i
@@ -16,4 +15,3 @@ invariant-symbols l = SymbolsTried l.image l.masks l.levels l.below.0 l.x l.s-en
 
 abbrev pub decreases-symbols : goal.decreases-symbols
 decreases-symbols l = l.s-end - l.s
-

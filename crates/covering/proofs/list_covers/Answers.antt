@@ -1,6 +1,5 @@
 use borrow.Author.Rules.{rules}
-use Prim.Native.Nat.{◌-◌}
-use Rattle.covering.proofs.Covering.{Listing, listing_starts, listing_goes, listing_full, listing_ends}
+use Rattle.covering.proofs.Covering.{listing_starts, listing_goes, listing_full, listing_ends}
 use Rattle.covering.proofs.list_covers.Goals as goal
 
 pub loop-i-init : goal.loop-i-init

@@ -1,6 +1,5 @@
 use borrow.Author.Rules.{rules}
-use Prim.Native.Nat.{◌-◌}
-use Rattle.covering.proofs.Covering.{Searching, search_starts, search_finds, search_goes, search_ends}
+use Rattle.covering.proofs.Covering.{search_starts, search_finds, search_goes, search_ends}
 use Rattle.covering.proofs.one_contains.Goals as goal
 
 pub loop-i-init : goal.loop-i-init

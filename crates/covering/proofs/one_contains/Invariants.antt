@@ -1,6 +1,5 @@
-use borrow.Author.Rules.{rules}
 use Prim.Native.Nat.{◌-◌}
-use Rattle.covering.proofs.Covering.{Searching, search_starts, search_finds, search_goes, search_ends}
+use Rattle.covering.proofs.Covering.{Searching}
 use Rattle.covering.proofs.one_contains.Given as goal
 
 abbrev pub invariant-loop-i : goal.invariant-loop-i
@@ -8,4 +7,3 @@ invariant-loop-i l = Searching l.near l.from l.to l.p l.i
 
 abbrev pub decreases-loop-i : goal.decreases-loop-i
 decreases-loop-i l = l.to - l.i
-

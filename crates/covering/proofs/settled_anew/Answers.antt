@@ -1,4 +1,3 @@
-use borrow.Author.Rules.{rules}
 use Rattle.covering.proofs.settled_anew.Goals as goal
 
 pub returns-then-p-before : goal.returns-then-p-before

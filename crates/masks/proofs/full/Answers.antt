@@ -1,5 +1,4 @@
 use Rattle.masks.proofs.Laws.{shifted_ones}
-use borrow.Author.Rules.{rules}
 use Rattle.masks.proofs.full.Goals as goal
 
 pub returns : goal.returns

@@ -1,7 +1,6 @@
 use mathlib.Core.Path.{ap}
 use Rattle.masks.specs.Sets.{union}
 use Rattle.masks.proofs.Laws.{shifted_one}
-use borrow.Author.Rules.{rules}
 use Rattle.masks.proofs.insert.Goals as goal
 
 pub returns : goal.returns

@@ -1,5 +1,4 @@
 use Rattle.masks.proofs.Laws.{shifted_test}
-use borrow.Author.Rules.{rules}
 use Rattle.masks.proofs.insert_if.Goals as goal
 
 pub returns : goal.returns

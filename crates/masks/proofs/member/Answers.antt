@@ -1,6 +1,5 @@
 use Rattle.masks.specs.Sets.{member}
 use lib.Bits.{and_mask}
-use borrow.Author.Rules.{rules}
 use Rattle.masks.proofs.member.Goals as goal
 
 pub returns : goal.returns

@@ -1,8 +1,5 @@
 use borrow.Author.Rules.{rules}
-use Prim.Native.Nat.{◌-◌}
-use Rattle.machine.specs.Machine.{settled}
-use Rattle.machine.specs.Lent.{blockers_in}
-use Rattle.automata.proofs.EachSymbol.{EachTried, each_starts, each_known, each_goes}
+use Rattle.automata.proofs.EachSymbol.{each_starts, each_known, each_goes}
 use Rattle.passing.proofs.Passing.{all_fails, all_ends}
 use Rattle.passing.proofs.all_settled.Goals as goal
 

@@ -1,9 +1,7 @@
-use borrow.Author.Rules.{rules}
 use Prim.Native.Nat.{◌-◌}
 use Rattle.machine.specs.Machine.{settled}
 use Rattle.machine.specs.Lent.{blockers_in}
-use Rattle.automata.proofs.EachSymbol.{EachTried, each_starts, each_known, each_goes}
-use Rattle.passing.proofs.Passing.{all_fails, all_ends}
+use Rattle.automata.proofs.EachSymbol.{EachTried}
 use Rattle.passing.proofs.all_settled.Given as goal
 
 abbrev pub invariant-loop-symbol : goal.invariant-loop-symbol
@@ -11,4 +9,3 @@ invariant-loop-symbol l = EachTried l.image (settled l.head.initial (blockers_in
 
 abbrev pub decreases-loop-symbol : goal.decreases-loop-symbol
 decreases-loop-symbol l = l.head.symbols - l.symbol.0
-

@@ -1,7 +1,5 @@
 use borrow.Author.Rules.{rules}
-use Prim.Native.Nat.{◌-◌}
-use Rattle.machine.specs.Lent.{blockers_in}
-use Rattle.passing.proofs.States.{StatesTried, states_start, state_known, states_go, states_end}
+use Rattle.passing.proofs.States.{states_start, state_known, states_go, states_end}
 use Rattle.passing.proofs.by_each.Goals as goal
 
 pub loop-q-init : goal.loop-q-init

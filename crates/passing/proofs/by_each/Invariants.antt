@@ -1,7 +1,6 @@
-use borrow.Author.Rules.{rules}
 use Prim.Native.Nat.{◌-◌}
 use Rattle.machine.specs.Lent.{blockers_in}
-use Rattle.passing.proofs.States.{StatesTried, states_start, state_known, states_go, states_end}
+use Rattle.passing.proofs.States.{StatesTried}
 use Rattle.passing.proofs.by_each.Given as goal
 
 abbrev pub invariant-loop-q : goal.invariant-loop-q
@@ -9,4 +8,3 @@ invariant-loop-q l = StatesTried l.image (blockers_in l.masks l.levels) l.below.
 
 abbrev pub decreases-loop-q : goal.decreases-loop-q
 decreases-loop-q l = l.head.states - l.q.0
-

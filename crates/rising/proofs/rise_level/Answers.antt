@@ -1,9 +1,6 @@
 use borrow.Author.Rules.{rules}
-use Prim.Native.Nat.{◌-◌}
-use Rattle.machine.specs.Lent.{room_of}
-use Rattle.machine.specs.Runs.{system_of}
 use Rattle.blockers.proofs.Parts.{part_masks, part_levels, part_paired, part_place}
-use Rattle.rising.proofs.Along.{Walked, walk_starts, rises_exactly, walk_passes, walk_rises, walk_ends}
+use Rattle.rising.proofs.Along.{walk_starts, rises_exactly, walk_passes, walk_rises, walk_ends}
 use Rattle.rising.proofs.rise_level.Goals as goal
 
 pub loop-place-init : goal.loop-place-init

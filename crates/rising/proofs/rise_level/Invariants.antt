@@ -1,9 +1,7 @@
-use borrow.Author.Rules.{rules}
 use Prim.Native.Nat.{◌-◌}
 use Rattle.machine.specs.Lent.{room_of}
 use Rattle.machine.specs.Runs.{system_of}
-use Rattle.blockers.proofs.Parts.{part_masks, part_levels, part_paired, part_place}
-use Rattle.rising.proofs.Along.{Walked, walk_starts, rises_exactly, walk_passes, walk_rises, walk_ends}
+use Rattle.rising.proofs.Along.{Walked}
 use Rattle.rising.proofs.rise_level.Given as goal
 
 abbrev pub invariant-loop-place : goal.invariant-loop-place
@@ -11,4 +9,3 @@ invariant-loop-place l = Walked (system_of l.image) (room_of l.initial.masks l.i
 
 abbrev pub decreases-loop-place : goal.decreases-loop-place
 decreases-loop-place l = l.count - l.place
-

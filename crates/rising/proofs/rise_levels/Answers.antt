@@ -1,8 +1,5 @@
 use borrow.Author.Rules.{rules}
-use Prim.Native.Nat.{◌+◌, ◌-◌}
-use Rattle.machine.specs.Lent.{room_of}
-use Rattle.machine.specs.Runs.{system_of}
-use Rattle.rising.proofs.Levels.{level_fits, level_nears, LevelsRisen, levels_start, levels_go, levels_end}
+use Rattle.rising.proofs.Levels.{level_fits, level_nears, levels_start, levels_go, levels_end}
 use Rattle.rising.proofs.rise_levels.Goals as goal
 
 pub loop-head-init : goal.loop-head-init

@@ -1,8 +1,7 @@
-use borrow.Author.Rules.{rules}
 use Prim.Native.Nat.{◌+◌, ◌-◌}
 use Rattle.machine.specs.Lent.{room_of}
 use Rattle.machine.specs.Runs.{system_of}
-use Rattle.rising.proofs.Levels.{level_fits, level_nears, LevelsRisen, levels_start, levels_go, levels_end}
+use Rattle.rising.proofs.Levels.{LevelsRisen}
 use Rattle.rising.proofs.rise_levels.Given as goal
 
 abbrev pub invariant-loop-head : goal.invariant-loop-head
@@ -10,4 +9,3 @@ invariant-loop-head l = LevelsRisen (system_of l.image) (room_of l.initial.masks
 
 abbrev pub decreases-loop-head : goal.decreases-loop-head
 decreases-loop-head l = (l.top.0 + 1) - l.level.0
-

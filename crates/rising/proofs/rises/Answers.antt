@@ -1,7 +1,4 @@
-use Prim.Native.Nat.{◌-◌}
-use Rattle.machine.specs.Machine.{blocked}
-use Rattle.machine.specs.Lent.{blockers_in}
-use Rattle.automata.proofs.EachSymbol.{EachTried, each_starts, each_known}
+use Rattle.automata.proofs.EachSymbol.{each_starts, each_known}
 use Rattle.rising.proofs.Blocked.{rise_other, rise_goes, rise_unblocked, rise_blocked}
 use borrow.Author.Rules.{rules}
 use Rattle.rising.proofs.rises.Goals as goal

@@ -1,9 +1,7 @@
 use Prim.Native.Nat.{◌-◌}
 use Rattle.machine.specs.Machine.{blocked}
 use Rattle.machine.specs.Lent.{blockers_in}
-use Rattle.automata.proofs.EachSymbol.{EachTried, each_starts, each_known}
-use Rattle.rising.proofs.Blocked.{rise_other, rise_goes, rise_unblocked, rise_blocked}
-use borrow.Author.Rules.{rules}
+use Rattle.automata.proofs.EachSymbol.{EachTried}
 use Rattle.rising.proofs.rises.Given as goal
 
 abbrev pub invariant-loop-symbol : goal.invariant-loop-symbol
@@ -11,4 +9,3 @@ invariant-loop-symbol l = EachTried l.image (blocked l.head.initial (blockers_in
 
 abbrev pub decreases-loop-symbol : goal.decreases-loop-symbol
 decreases-loop-symbol l = l.head.symbols - l.symbol.0
-

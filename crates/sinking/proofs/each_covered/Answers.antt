@@ -1,9 +1,5 @@
 use borrow.Author.Rules.{rules}
-use Prim.Native.Nat.{◌-◌}
-use Rattle.lists.specs.Lists.{any}
-use Rattle.machine.specs.Machine.{covers}
-use Rattle.machine.specs.Lent.{blockers_from, unstamped_room}
-use Rattle.automata.proofs.EachSymbol.{EachTried, each_starts, each_known}
+use Rattle.automata.proofs.EachSymbol.{each_starts, each_known}
 use Rattle.sinking.proofs.Covered.{covered_goes, covered_fails, covered_all}
 use Rattle.sinking.proofs.each_covered.Goals as goal
 

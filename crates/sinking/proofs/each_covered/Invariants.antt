@@ -1,10 +1,8 @@
-use borrow.Author.Rules.{rules}
 use Prim.Native.Nat.{◌-◌}
 use Rattle.lists.specs.Lists.{any}
 use Rattle.machine.specs.Machine.{covers}
 use Rattle.machine.specs.Lent.{blockers_from, unstamped_room}
-use Rattle.automata.proofs.EachSymbol.{EachTried, each_starts, each_known}
-use Rattle.sinking.proofs.Covered.{covered_goes, covered_fails, covered_all}
+use Rattle.automata.proofs.EachSymbol.{EachTried}
 use Rattle.sinking.proofs.each_covered.Given as goal
 
 abbrev pub invariant-loop-symbol : goal.invariant-loop-symbol
@@ -12,4 +10,3 @@ invariant-loop-symbol l = EachTried l.image (λ P. any (covers l.level.0 P) (blo
 
 abbrev pub decreases-loop-symbol : goal.decreases-loop-symbol
 decreases-loop-symbol l = l.head.symbols - l.symbol.0
-

@@ -1,8 +1,6 @@
 use borrow.Author.Rules.{rules}
-use Prim.Native.Nat.{◌+◌, ◌-◌}
-use Rattle.machine.specs.Runs.{system_of}
 use Rattle.rising.proofs.Levels.{level_fits, level_nears}
-use Rattle.sinking.proofs.Indexed.{Indexed, indexed_starts, indexed_above, indexed_goes, indexed_ends}
+use Rattle.sinking.proofs.Indexed.{indexed_starts, indexed_above, indexed_goes, indexed_ends}
 use Rattle.sinking.proofs.rise_by.Goals as goal
 
 pub loop-head-init : goal.loop-head-init

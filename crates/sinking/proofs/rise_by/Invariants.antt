@@ -1,8 +1,6 @@
-use borrow.Author.Rules.{rules}
 use Prim.Native.Nat.{◌+◌, ◌-◌}
 use Rattle.machine.specs.Runs.{system_of}
-use Rattle.rising.proofs.Levels.{level_fits, level_nears}
-use Rattle.sinking.proofs.Indexed.{Indexed, indexed_starts, indexed_above, indexed_goes, indexed_ends}
+use Rattle.sinking.proofs.Indexed.{Indexed}
 use Rattle.sinking.proofs.rise_by.Given as goal
 
 abbrev pub invariant-loop-head : goal.invariant-loop-head
@@ -10,4 +8,3 @@ invariant-loop-head l = Indexed (system_of l.image) l.top.0 l.held l.masks l.ini
 
 abbrev pub decreases-loop-head : goal.decreases-loop-head
 decreases-loop-head l = (l.top.0 + 1) - l.level.0
-

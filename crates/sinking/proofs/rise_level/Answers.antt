@@ -1,7 +1,5 @@
 use borrow.Author.Rules.{rules}
-use Prim.Native.Nat.{◌-◌}
-use Rattle.machine.specs.Runs.{system_of}
-use Rattle.sinking.proofs.Walking.{Walk, walk_starts, walk_index, walk_levels, walk_below, walk_goes, walk_none, walk_ends}
+use Rattle.sinking.proofs.Walking.{walk_starts, walk_index, walk_levels, walk_below, walk_goes, walk_none, walk_ends}
 use Rattle.sinking.proofs.rise_level.Goals as goal
 
 pub loop-from-init : goal.loop-from-init

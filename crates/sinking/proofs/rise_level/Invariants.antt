@@ -1,7 +1,6 @@
-use borrow.Author.Rules.{rules}
 use Prim.Native.Nat.{◌-◌}
 use Rattle.machine.specs.Runs.{system_of}
-use Rattle.sinking.proofs.Walking.{Walk, walk_starts, walk_index, walk_levels, walk_below, walk_goes, walk_none, walk_ends}
+use Rattle.sinking.proofs.Walking.{Walk}
 use Rattle.sinking.proofs.rise_level.Given as goal
 
 abbrev pub invariant-loop-from : goal.invariant-loop-from
@@ -9,4 +8,3 @@ invariant-loop-from l = Walk (system_of l.image) l.level.0 l.held l.listed.upto 
 
 abbrev pub decreases-loop-from : goal.decreases-loop-from
 decreases-loop-from l = l.held - l.from
-

@@ -1,6 +1,5 @@
 use borrow.Author.Rules.{rules}
-use Prim.Native.Nat.{◌-◌}
-use Rattle.wordroom.proofs.Changes.{Clearing, clearing_starts, clearing_next, clearing_ends}
+use Rattle.wordroom.proofs.Changes.{clearing_starts, clearing_next, clearing_ends}
 use Rattle.wordroom.proofs.clear_cases.Goals as goal
 
 pub loop-at-init : goal.loop-at-init

@@ -1,6 +1,4 @@
-use Rattle.machine.specs.Lent.{word_room_of}
-use Rattle.wordroom.proofs.Changes.{ClearingBoth, both_start, both_next, both_end}
-use Prim.Native.Nat.{◌-◌}
+use Rattle.wordroom.proofs.Changes.{both_start, both_next, both_end}
 use borrow.Author.Rules.{rules}
 use Rattle.wordroom.proofs.clear_first.Goals as goal
 

@@ -1,7 +1,6 @@
 use Rattle.machine.specs.Lent.{word_room_of}
-use Rattle.wordroom.proofs.Changes.{ClearingBoth, both_start, both_next, both_end}
+use Rattle.wordroom.proofs.Changes.{ClearingBoth}
 use Prim.Native.Nat.{◌-◌}
-use borrow.Author.Rules.{rules}
 use Rattle.wordroom.proofs.clear_first.Given as goal
 
 abbrev pub invariant-loop-at : goal.invariant-loop-at
@@ -9,4 +8,3 @@ invariant-loop-at l = ClearingBoth l.count (word_room_of l.initial.cases l.initi
 
 abbrev pub decreases-loop-at : goal.decreases-loop-at
 decreases-loop-at l = l.count - l.at
-

@@ -1,7 +1,5 @@
 use borrow.Author.Rules.{rules}
-use Prim.Native.Nat.{◌-◌}
-use lib.ListN.{length}
-use Rattle.writing.proofs.LinesPut.{Lining, lining_starts, below_limit, lining_next, lining_near, lining_passed, lining_ends}
+use Rattle.writing.proofs.LinesPut.{lining_starts, below_limit, lining_next, lining_near, lining_passed, lining_ends}
 use Rattle.writing.proofs.put_line_of_bytes.Goals as goal
 
 pub loop-i-init : goal.loop-i-init

@@ -1,5 +1,3 @@
-use Prim.Native.Nat.{◌-◌}
-use Rattle.automata.specs.Walk.{Walking}
 use Rattle.automata.proofs.RowWalks.{one_stands, one_goes, one_fills, none_left}
 use borrow.Author.Rules.{rules}
 use Rattle.automata.proofs.backward.by_ones.Goals as goal

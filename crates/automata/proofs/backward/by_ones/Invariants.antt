@@ -1,7 +1,5 @@
 use Prim.Native.Nat.{◌-◌}
 use Rattle.automata.specs.Walk.{Walking}
-use Rattle.automata.proofs.RowWalks.{one_stands, one_goes, one_fills, none_left}
-use borrow.Author.Rules.{rules}
 use Rattle.automata.proofs.backward.by_ones.Given as goal
 
 abbrev pub invariant-loop-at : goal.invariant-loop-at
@@ -9,4 +7,3 @@ invariant-loop-at l = Walking l.image l.rows.start l.rows.end l.x l.at l.set
 
 abbrev pub decreases-loop-at : goal.decreases-loop-at
 decreases-loop-at l = l.rows.end - l.at
-

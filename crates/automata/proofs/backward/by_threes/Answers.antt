@@ -1,5 +1,3 @@
-use Prim.Native.Nat.{◌-◌}
-use Rattle.automata.specs.Walk.{Walking}
 use Rattle.automata.proofs.RowWalks.{three_stand, three_go, first_fills, second_fills, third_fills}
 use borrow.Author.Rules.{rules}
 use Rattle.automata.proofs.backward.by_threes.Goals as goal

@@ -1,7 +1,5 @@
 use Prim.Native.Nat.{◌-◌}
 use Rattle.automata.specs.Walk.{Walking}
-use Rattle.automata.proofs.RowWalks.{three_stand, three_go, first_fills, second_fills, third_fills}
-use borrow.Author.Rules.{rules}
 use Rattle.automata.proofs.backward.by_threes.Given as goal
 
 abbrev pub invariant-loop-at : goal.invariant-loop-at
@@ -9,4 +7,3 @@ invariant-loop-at l = Walking l.image l.rows.start l.rows.end l.x l.at l.set
 
 abbrev pub decreases-loop-at : goal.decreases-loop-at
 decreases-loop-at l = l.rows.end - l.at
-

@@ -1,6 +1,5 @@
 use borrow.Author.Rules.{rules}
-use Prim.Native.Nat.{◌-◌}
-use Rattle.automata.proofs.Checks.{PairsLeft, pairs_none, pair_offset, pair_size, pair_next, pairs_end}
+use Rattle.automata.proofs.Checks.{pairs_none, pair_offset, pair_size, pair_next, pairs_end}
 use Rattle.automata.proofs.image.pairs_hold.Goals as goal
 
 pub loop-symbol-init : goal.loop-symbol-init

@@ -1,6 +1,5 @@
 use borrow.Author.Rules.{rules}
-use Prim.Native.Nat.{◌-◌}
-use Rattle.automata.proofs.Checks.{RowsLeft, rows_none, row_fails, row_next, rows_end}
+use Rattle.automata.proofs.Checks.{rows_none, row_fails, row_next, rows_end}
 use Rattle.automata.proofs.image.rows_hold.Goals as goal
 
 pub loop-i-init : goal.loop-i-init

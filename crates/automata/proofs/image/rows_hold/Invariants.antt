@@ -1,6 +1,5 @@
-use borrow.Author.Rules.{rules}
 use Prim.Native.Nat.{◌-◌}
-use Rattle.automata.proofs.Checks.{RowsLeft, rows_none, row_fails, row_next, rows_end}
+use Rattle.automata.proofs.Checks.{RowsLeft}
 use Rattle.automata.proofs.image.rows_hold.Given as goal
 
 abbrev pub invariant-loop-i : goal.invariant-loop-i
@@ -8,4 +7,3 @@ invariant-loop-i l = RowsLeft l.image l.rows l.i
 
 abbrev pub decreases-loop-i : goal.decreases-loop-i
 decreases-loop-i l = l.rows - l.i
-

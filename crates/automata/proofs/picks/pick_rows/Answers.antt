@@ -1,7 +1,6 @@
 use borrow.Author.Rules.{rules}
-use Prim.Native.Nat.{◌-◌}
 use Rattle.automata.proofs.RowWalks.{one_stands}
-use Rattle.automata.proofs.PickWalks.{Picking, picking_starts, picking_next, all_have_picked, picking_ends}
+use Rattle.automata.proofs.PickWalks.{picking_starts, picking_next, all_have_picked, picking_ends}
 use Rattle.automata.proofs.picks.pick_rows.Goals as goal
 
 pub loop-at-init : goal.loop-at-init

@@ -1,4 +1,3 @@
-use borrow.Author.Rules.{rules}
 use Rattle.automata.proofs.picks.reached.Goals as goal
 
 pub returns : goal.returns

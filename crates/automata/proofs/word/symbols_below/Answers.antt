@@ -1,7 +1,5 @@
 use borrow.Author.Rules.{rules}
-use Prim.Native.Nat.{◌-◌}
-use lib.ListN.{length}
-use Rattle.automata.proofs.WordTests.{SymbolsLeft, symbols_none, symbol_above, symbol_below, symbols_end}
+use Rattle.automata.proofs.WordTests.{symbols_none, symbol_above, symbol_below, symbols_end}
 use Rattle.automata.proofs.word.symbols_below.Goals as goal
 
 pub loop-i-init : goal.loop-i-init

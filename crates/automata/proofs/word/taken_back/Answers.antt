@@ -1,5 +1,5 @@
 use borrow.Author.Rules.{rules}
-use Rattle.automata.proofs.WordTests.{TakenFrom, taken_none, last_known, taken_more, taken_end}
+use Rattle.automata.proofs.WordTests.{taken_none, last_known, taken_more, taken_end}
 use Rattle.automata.proofs.word.taken_back.Goals as goal
 
 pub loop-i-init : goal.loop-i-init

@@ -1,5 +1,4 @@
-use borrow.Author.Rules.{rules}
-use Rattle.automata.proofs.WordTests.{TakenFrom, taken_none, last_known, taken_more, taken_end}
+use Rattle.automata.proofs.WordTests.{TakenFrom}
 use Rattle.automata.proofs.word.taken_back.Given as goal
 
 abbrev pub invariant-loop-i : goal.invariant-loop-i
@@ -7,4 +6,3 @@ invariant-loop-i l = TakenFrom l.image l.word l.x l.i l.case
 
 abbrev pub decreases-loop-i : goal.decreases-loop-i
 decreases-loop-i l = l.i
-

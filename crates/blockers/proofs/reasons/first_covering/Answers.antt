@@ -1,5 +1,4 @@
-use Rattle.blockers.proofs.Walks.{Walked, walk_begins, walk_finds, walk_goes, walk_ends}
-use Prim.Native.Nat.{◌-◌}
+use Rattle.blockers.proofs.Walks.{walk_begins, walk_finds, walk_goes, walk_ends}
 use borrow.Author.Rules.{rules}
 use Rattle.blockers.proofs.reasons.first_covering.Goals as goal
 

@@ -1,6 +1,5 @@
 use borrow.Author.Rules.{rules}
-use Prim.Native.Nat.{◌-◌}
-use Rattle.blockers.proofs.Walks.{Skipping, skip_starts, skip_next, skip_goes, skip_ends}
+use Rattle.blockers.proofs.Walks.{skip_starts, skip_next, skip_goes, skip_ends}
 use Rattle.blockers.proofs.reasons.skip.Goals as goal
 
 pub loop-i-init : goal.loop-i-init

@@ -1,6 +1,5 @@
-use borrow.Author.Rules.{rules}
 use Prim.Native.Nat.{◌-◌}
-use Rattle.blockers.proofs.Walks.{Skipping, skip_starts, skip_next, skip_goes, skip_ends}
+use Rattle.blockers.proofs.Walks.{Skipping}
 use Rattle.blockers.proofs.reasons.skip.Given as goal
 
 abbrev pub invariant-loop-i : goal.invariant-loop-i
@@ -8,4 +7,3 @@ invariant-loop-i l = Skipping l.masks l.levels l.level.0 l.case l.count l.from l
 
 abbrev pub decreases-loop-i : goal.decreases-loop-i
 decreases-loop-i l = l.count - l.i
-

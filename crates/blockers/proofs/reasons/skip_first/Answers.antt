@@ -1,4 +1,3 @@
-use borrow.Author.Rules.{rules}
 use native.Mathlib.Omega.{arith}
 use Rattle.blockers.proofs.Walks.{skip_none}
 use Rattle.blockers.proofs.reasons.skip_first.Goals as goal

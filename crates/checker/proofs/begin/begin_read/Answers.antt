@@ -1,6 +1,5 @@
 use Rattle.checker.proofs.Calling.{begin_refuses_terms, begin_goes}
 use Rattle.checker.proofs.Checking.{rooms_checked}
-use borrow.Author.Rules.{rules}
 use Rattle.checker.proofs.begin.begin_read.Goals as goal
 
 pub returns-then-number-ne0 : goal.returns-then-number-ne0

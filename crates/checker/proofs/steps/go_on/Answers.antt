@@ -1,8 +1,5 @@
 use borrow.Author.Rules.{rules}
-use Rattle.machine.specs.Lent.{room_of, word_room_of}
-use Rattle.machine.specs.Runs.{step_given}
-use Rattle.checker.specs.Stage.{stage}
-use Rattle.checker.proofs.Going.{GoesOn, goes_starts, goes_ready, goes_again, fewer_left, goes_returns, goes_ends}
+use Rattle.checker.proofs.Going.{goes_starts, goes_ready, goes_again, fewer_left, goes_returns, goes_ends}
 use Rattle.checker.proofs.steps.go_on.Goals as goal
 
 pub loop-next-init : goal.loop-next-init

@@ -1,8 +1,7 @@
-use borrow.Author.Rules.{rules}
 use Rattle.machine.specs.Lent.{room_of, word_room_of}
 use Rattle.machine.specs.Runs.{step_given}
 use Rattle.checker.specs.Stage.{stage}
-use Rattle.checker.proofs.Going.{GoesOn, goes_starts, goes_ready, goes_again, fewer_left, goes_returns, goes_ends}
+use Rattle.checker.proofs.Going.{GoesOn}
 use Rattle.checker.proofs.steps.go_on.Given as goal
 
 abbrev pub invariant-loop-next : goal.invariant-loop-next
@@ -11,4 +10,3 @@ invariant-loop-next l = GoesOn l.image l.head (step_given l.image l.hints l.allo
 
 abbrev pub decreases-loop-next : goal.decreases-loop-next
 decreases-loop-next l = l.left
-

@@ -1,10 +1,6 @@
 use borrow.Author.Rules.{rules}
-use Prim.Native.Nat.{◌+◌, ◌-◌}
-use lib.Dec.{eqb}
-use Rattle.lists.specs.Tests.{neg}
-use Rattle.lists.specs.Lists.{any}
 use Rattle.rising.proofs.Levels.{level_fits, level_nears}
-use Rattle.closing.proofs.Vacancies.{LevelsTried, tries_start, tries_find, tries_go, tries_end}
+use Rattle.closing.proofs.Vacancies.{tries_start, tries_find, tries_go, tries_end}
 use Rattle.closing.proofs.vacancy.lowest_by_search.Goals as goal
 
 pub loop-top-init : goal.loop-top-init

@@ -1,10 +1,8 @@
-use borrow.Author.Rules.{rules}
 use Prim.Native.Nat.{◌+◌, ◌-◌}
 use lib.Dec.{eqb}
 use Rattle.lists.specs.Tests.{neg}
 use Rattle.lists.specs.Lists.{any}
-use Rattle.rising.proofs.Levels.{level_fits, level_nears}
-use Rattle.closing.proofs.Vacancies.{LevelsTried, tries_start, tries_find, tries_go, tries_end}
+use Rattle.closing.proofs.Vacancies.{LevelsTried}
 use Rattle.closing.proofs.vacancy.lowest_by_search.Given as goal
 
 abbrev pub invariant-loop-top : goal.invariant-loop-top
@@ -12,4 +10,3 @@ invariant-loop-top l = LevelsTried (λ j. neg (any (λ other. eqb other j) l.lev
 
 abbrev pub decreases-loop-top : goal.decreases-loop-top
 decreases-loop-top l = (l.top.0 + 1) - l.level.0
-

@@ -1,9 +1,7 @@
-use borrow.Author.Rules.{rules}
 use Prim.Native.Nat.{◌+◌, ◌-◌}
 use lib.Dec.{eqb}
 use lib.ListN.{get_or}
-use Rattle.rising.proofs.Levels.{level_fits, level_nears}
-use Rattle.closing.proofs.Vacancies.{LevelsTried, tries_start, tries_find, tries_go, tries_end}
+use Rattle.closing.proofs.Vacancies.{LevelsTried}
 use Rattle.closing.proofs.vacancy.lowest_unmarked.Given as goal
 
 abbrev pub invariant-loop-top : goal.invariant-loop-top
@@ -11,4 +9,3 @@ invariant-loop-top l = LevelsTried (λ j. eqb (get_or l.marks j 0) 0) l.top.0 l.
 
 abbrev pub decreases-loop-top : goal.decreases-loop-top
 decreases-loop-top l = (l.top.0 + 1) - l.level.0
-

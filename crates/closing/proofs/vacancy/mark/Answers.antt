@@ -1,7 +1,5 @@
 use borrow.Author.Rules.{rules}
-use Prim.Native.Nat.{◌-◌}
-use lib.ListN.{length}
-use Rattle.closing.proofs.Vacant.{Marking, marking_starts, marking_passes, marking_marks, marking_ends}
+use Rattle.closing.proofs.Vacant.{marking_starts, marking_passes, marking_marks, marking_ends}
 use Rattle.closing.proofs.vacancy.mark.Goals as goal
 
 pub loop-i-init : goal.loop-i-init

@@ -1,6 +1,5 @@
 use borrow.Author.Rules.{rules}
-use Prim.Native.Nat.{◌-◌}
-use Rattle.firing.proofs.Chaining.{RowsLinking, rows_start, rows_known, rows_go, rows_all}
+use Rattle.firing.proofs.Chaining.{rows_start, rows_known, rows_go, rows_all}
 use Rattle.firing.proofs.linking.link_rows.Goals as goal
 
 pub loop-symbol-init : goal.loop-symbol-init

@@ -1,6 +1,5 @@
-use borrow.Author.Rules.{rules}
 use Prim.Native.Nat.{◌-◌}
-use Rattle.firing.proofs.Chaining.{RowsLinking, rows_start, rows_known, rows_go, rows_all}
+use Rattle.firing.proofs.Chaining.{RowsLinking}
 use Rattle.firing.proofs.linking.link_rows.Given as goal
 
 abbrev pub invariant-loop-symbol : goal.invariant-loop-symbol
@@ -8,4 +7,3 @@ invariant-loop-symbol l = RowsLinking l.image l.x l.head.symbols l.symbol.0 l.co
 
 abbrev pub decreases-loop-symbol : goal.decreases-loop-symbol
 decreases-loop-symbol l = l.head.symbols - l.symbol.0
-

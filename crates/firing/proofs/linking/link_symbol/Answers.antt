@@ -1,6 +1,5 @@
 use borrow.Author.Rules.{rules}
-use Prim.Native.Nat.{◌-◌}
-use Rattle.firing.proofs.Chaining.{SymbolLinking, symbol_starts, symbol_belongs, number_more, symbol_goes, symbol_placed}
+use Rattle.firing.proofs.Chaining.{symbol_starts, symbol_belongs, number_more, symbol_goes, symbol_placed}
 use Rattle.firing.proofs.linking.link_symbol.Goals as goal
 
 pub loop-at-init : goal.loop-at-init

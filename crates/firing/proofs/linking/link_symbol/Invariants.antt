@@ -1,6 +1,5 @@
-use borrow.Author.Rules.{rules}
 use Prim.Native.Nat.{◌-◌}
-use Rattle.firing.proofs.Chaining.{SymbolLinking, symbol_starts, symbol_belongs, number_more, symbol_goes, symbol_placed}
+use Rattle.firing.proofs.Chaining.{SymbolLinking}
 use Rattle.firing.proofs.linking.link_symbol.Given as goal
 
 abbrev pub invariant-loop-at : goal.invariant-loop-at
@@ -8,4 +7,3 @@ invariant-loop-at l = SymbolLinking l.image l.x l.symbol.0 l.end l.at l.row l.in
 
 abbrev pub decreases-loop-at : goal.decreases-loop-at
 decreases-loop-at l = l.end - l.at
-

@@ -1,6 +1,6 @@
 use borrow.Author.Rules.{rules}
 use native.Mathlib.Omega.{arith}
-use Rattle.firing.proofs.Fires.{Firing, fire_first, fire_starts, fire_symbol, fire_link, fire_stands, fire_fits, fire_place, fire_nearer, fire_goes, fire_ends}
+use Rattle.firing.proofs.Fires.{fire_first, fire_starts, fire_symbol, fire_link, fire_stands, fire_fits, fire_place, fire_nearer, fire_goes, fire_ends}
 use Rattle.firing.proofs.sets.fire.Goals as goal
 
 pub told-number-requires : goal.told-number-requires

@@ -1,8 +1,5 @@
 use borrow.Author.Rules.{rules}
-use Prim.Native.Nat.{◌-◌}
-use Rattle.machine.specs.Machine.{settled}
-use Rattle.machine.specs.Lent.{blockers_in}
-use Rattle.automata.proofs.EachSymbol.{EachTried, each_starts}
+use Rattle.automata.proofs.EachSymbol.{each_starts}
 use Rattle.passing.proofs.Passing.{all_ends}
 use Rattle.growing.proofs.Settles.{settle_told, settle_same, settle_goes, settle_fails}
 use Rattle.growing.proofs.trying.all_settled.Goals as goal

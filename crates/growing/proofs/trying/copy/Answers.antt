@@ -1,6 +1,5 @@
 use borrow.Author.Rules.{rules}
-use Prim.Native.Nat.{◌-◌}
-use Rattle.growing.proofs.Copies.{Copying, copy_starts, copy_goes, copy_place, copy_ends}
+use Rattle.growing.proofs.Copies.{copy_starts, copy_goes, copy_place, copy_ends}
 use Rattle.growing.proofs.trying.copy.Goals as goal
 
 pub loop-i-init : goal.loop-i-init

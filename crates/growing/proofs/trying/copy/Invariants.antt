@@ -1,6 +1,5 @@
-use borrow.Author.Rules.{rules}
 use Prim.Native.Nat.{◌-◌}
-use Rattle.growing.proofs.Copies.{Copying, copy_starts, copy_goes, copy_place, copy_ends}
+use Rattle.growing.proofs.Copies.{Copying}
 use Rattle.growing.proofs.trying.copy.Given as goal
 
 abbrev pub invariant-loop-i : goal.invariant-loop-i
@@ -8,4 +7,3 @@ invariant-loop-i l = Copying l.count l.from l.initial.to l.to l.i
 
 abbrev pub decreases-loop-i : goal.decreases-loop-i
 decreases-loop-i l = l.count - l.i
-

@@ -1,8 +1,6 @@
 use borrow.Author.Rules.{rules}
-use Prim.Native.Nat.{◌-◌}
-use Rattle.machine.specs.Lent.{blockers_in}
 use Rattle.lists.proofs.Tests.{holds}
-use Rattle.growing.proofs.Begins.{FirstSets, first_starts, first_known, first_ends, first_told, first_goes}
+use Rattle.growing.proofs.Begins.{first_starts, first_known, first_ends, first_told, first_goes}
 use Rattle.growing.proofs.trying.first_sets.Goals as goal
 
 pub loop-symbol-init : goal.loop-symbol-init

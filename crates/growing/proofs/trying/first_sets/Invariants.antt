@@ -1,8 +1,6 @@
-use borrow.Author.Rules.{rules}
 use Prim.Native.Nat.{◌-◌}
 use Rattle.machine.specs.Lent.{blockers_in}
-use Rattle.lists.proofs.Tests.{holds}
-use Rattle.growing.proofs.Begins.{FirstSets, first_starts, first_known, first_ends, first_told, first_goes}
+use Rattle.growing.proofs.Begins.{FirstSets}
 use Rattle.growing.proofs.trying.first_sets.Given as goal
 
 abbrev pub invariant-loop-symbol : goal.invariant-loop-symbol
@@ -10,4 +8,3 @@ invariant-loop-symbol l = FirstSets l.image (blockers_in l.masks l.levels) l.bel
 
 abbrev pub decreases-loop-symbol : goal.decreases-loop-symbol
 decreases-loop-symbol l = l.head.symbols - l.symbol.0
-

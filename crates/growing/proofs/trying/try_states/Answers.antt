@@ -1,8 +1,6 @@
 use borrow.Author.Rules.{rules}
-use Prim.Native.Nat.{◌-◌}
-use Rattle.machine.specs.Lent.{blockers_in}
 use Rattle.passing.proofs.States.{state_known}
-use Rattle.growing.proofs.Tries.{StatesTrying, tries_start, tries_go, tries_end}
+use Rattle.growing.proofs.Tries.{tries_start, tries_go, tries_end}
 use Rattle.growing.proofs.trying.try_states.Goals as goal
 
 pub loop-q-init : goal.loop-q-init

@@ -1,8 +1,6 @@
-use borrow.Author.Rules.{rules}
 use Prim.Native.Nat.{◌-◌}
 use Rattle.machine.specs.Lent.{blockers_in}
-use Rattle.passing.proofs.States.{state_known}
-use Rattle.growing.proofs.Tries.{StatesTrying, tries_start, tries_go, tries_end}
+use Rattle.growing.proofs.Tries.{StatesTrying}
 use Rattle.growing.proofs.trying.try_states.Given as goal
 
 abbrev pub invariant-loop-q : goal.invariant-loop-q
@@ -10,4 +8,3 @@ invariant-loop-q l = StatesTrying l.image (blockers_in l.masks l.levels) l.below
 
 abbrev pub decreases-loop-q : goal.decreases-loop-q
 decreases-loop-q l = l.head.states - l.q.0
-

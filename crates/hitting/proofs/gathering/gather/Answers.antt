@@ -1,6 +1,4 @@
-use Prim.Native.Nat.{◌-◌}
-use Rattle.machine.specs.Lent.{blockers_in}
-use Rattle.hitting.proofs.Gathers.{SymbolsGathered, first_room, symbols_start, symbol_known, symbols_room, symbols_go, symbols_long, slots_long, links_long, symbols_end}
+use Rattle.hitting.proofs.Gathers.{first_room, symbols_start, symbol_known, symbols_room, symbols_go, symbols_end}
 use borrow.Author.Rules.{rules}
 use Rattle.hitting.proofs.gathering.gather.Goals as goal
 

@@ -1,6 +1,5 @@
-use Rattle.hitting.proofs.Linking.{Looking, looking_starts, told_linked, looking_nearer, looking_ends}
+use Rattle.hitting.proofs.Linking.{looking_starts, told_linked, looking_nearer, looking_ends}
 use Rattle.hitting.proofs.Gathers.{place_in, is_found, look_on}
-use lib.ListN.{take}
 use borrow.Author.Rules.{rules}
 use Rattle.hitting.proofs.gathering.is_there.Goals as goal
 

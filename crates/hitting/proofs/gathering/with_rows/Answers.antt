@@ -1,5 +1,4 @@
-use Prim.Native.Nat.{◌-◌}
-use Rattle.hitting.proofs.Gathers.{RowsGathered, rows_start, row_stands, next_room, rows_go, rows_end}
+use Rattle.hitting.proofs.Gathers.{rows_start, row_stands, next_room, rows_go, rows_end}
 use borrow.Author.Rules.{rules}
 use Rattle.hitting.proofs.gathering.with_rows.Goals as goal
 

@@ -1,6 +1,5 @@
 use Prim.Native.Nat.{◌-◌}
-use Rattle.hitting.proofs.Gathers.{RowsGathered, rows_start, row_stands, next_room, rows_go, rows_end}
-use borrow.Author.Rules.{rules}
+use Rattle.hitting.proofs.Gathers.{RowsGathered}
 use Rattle.hitting.proofs.gathering.with_rows.Given as goal
 
 abbrev pub invariant-loop-at : goal.invariant-loop-at
@@ -8,4 +7,3 @@ invariant-loop-at l = RowsGathered l.image l.start l.end l.b l.x l.initial.sets 
 
 abbrev pub decreases-loop-at : goal.decreases-loop-at
 decreases-loop-at l = l.end - l.at
-

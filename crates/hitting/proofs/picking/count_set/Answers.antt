@@ -1,6 +1,4 @@
-use Prim.Native.Nat.{◌-◌}
-use lib.ListN.{length}
-use Rattle.hitting.proofs.Planes.{Carrying, carry_starts, carry_stops, carry_goes, carry_ends}
+use Rattle.hitting.proofs.Planes.{carry_starts, carry_stops, carry_goes, carry_ends}
 use borrow.Author.Rules.{rules}
 use Rattle.hitting.proofs.picking.count_set.Goals as goal
 

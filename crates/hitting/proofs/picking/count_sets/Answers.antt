@@ -1,5 +1,4 @@
-use Prim.Native.Nat.{◌-◌}
-use Rattle.hitting.proofs.Planes.{CountingSets, counts_start, counts_go, counts_end}
+use Rattle.hitting.proofs.Planes.{counts_start, counts_go, counts_end}
 use borrow.Author.Rules.{rules}
 use Rattle.hitting.proofs.picking.count_sets.Goals as goal
 

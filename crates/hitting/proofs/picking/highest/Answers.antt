@@ -1,4 +1,4 @@
-use Rattle.hitting.proofs.Planes.{Narrowing, narrowing_starts, narrowing_goes, narrowing_ends}
+use Rattle.hitting.proofs.Planes.{narrowing_starts, narrowing_goes, narrowing_ends}
 use borrow.Author.Rules.{rules}
 use Rattle.hitting.proofs.picking.highest.Goals as goal
 

@@ -1,5 +1,4 @@
-use Prim.Native.Nat.{◌-◌}
-use Rattle.hitting.proofs.Picks.{ClosingUp, unmet_starts, unmet_leaves, unmet_stays, unmet_ends}
+use Rattle.hitting.proofs.Picks.{unmet_starts, unmet_leaves, unmet_stays, unmet_ends}
 use borrow.Author.Rules.{rules}
 use Rattle.hitting.proofs.picking.keep_unmet.Goals as goal
 

@@ -1,6 +1,5 @@
 use Prim.Native.Nat.{◌-◌}
-use Rattle.hitting.proofs.Picks.{ClosingUp, unmet_starts, unmet_leaves, unmet_stays, unmet_ends}
-use borrow.Author.Rules.{rules}
+use Rattle.hitting.proofs.Picks.{ClosingUp}
 use Rattle.hitting.proofs.picking.keep_unmet.Given as goal
 
 abbrev pub invariant-loop-i : goal.invariant-loop-i
@@ -8,4 +7,3 @@ invariant-loop-i l = ClosingUp l.initial.sets l.count l.q.0 l.kept l.i l.sets
 
 abbrev pub decreases-loop-i : goal.decreases-loop-i
 decreases-loop-i l = l.count - l.i
-

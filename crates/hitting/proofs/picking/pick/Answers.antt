@@ -1,5 +1,4 @@
-use Prim.Native.Nat.{◌-◌}
-use Rattle.hitting.proofs.Picks.{Picking, picks_start, picks_done, picks_go, picks_end}
+use Rattle.hitting.proofs.Picks.{picks_start, picks_done, picks_go, picks_end}
 use borrow.Author.Rules.{rules}
 use Rattle.hitting.proofs.picking.pick.Goals as goal
 

@@ -1,6 +1,5 @@
 use Prim.Native.Nat.{◌-◌}
-use Rattle.hitting.proofs.Picks.{Picking, picks_start, picks_done, picks_go, picks_end}
-use borrow.Author.Rules.{rules}
+use Rattle.hitting.proofs.Picks.{Picking}
 use Rattle.hitting.proofs.picking.pick.Given as goal
 
 abbrev pub invariant-loop-turn : goal.invariant-loop-turn
@@ -8,4 +7,3 @@ invariant-loop-turn l = Picking l.n l.initial.sets l.count l.left l.picked l.tur
 
 abbrev pub decreases-loop-turn : goal.decreases-loop-turn
 decreases-loop-turn l = l.count - l.turn
-

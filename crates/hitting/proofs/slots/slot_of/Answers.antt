@@ -1,5 +1,4 @@
 use Rattle.hitting.proofs.Linking.{slot_made}
-use borrow.Author.Rules.{rules}
 use Rattle.hitting.proofs.slots.slot_of.Goals as goal
 
 pub returns : goal.returns

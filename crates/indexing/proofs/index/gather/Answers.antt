@@ -1,6 +1,5 @@
 use borrow.Author.Rules.{rules}
-use Prim.Native.Nat.{◌-◌}
-use Rattle.indexing.proofs.Listing.{Gathered, gather_starts, gather_passes, gather_lists, gather_fits, gather_full, gather_ends}
+use Rattle.indexing.proofs.Listing.{gather_starts, gather_passes, gather_lists, gather_fits, gather_full, gather_ends}
 use Rattle.indexing.proofs.index.gather.Goals as goal
 
 pub loop-place-init : goal.loop-place-init

@@ -1,6 +1,5 @@
-use borrow.Author.Rules.{rules}
 use Prim.Native.Nat.{◌-◌}
-use Rattle.indexing.proofs.Listing.{Gathered, gather_starts, gather_passes, gather_lists, gather_fits, gather_full, gather_ends}
+use Rattle.indexing.proofs.Listing.{Gathered}
 use Rattle.indexing.proofs.index.gather.Given as goal
 
 abbrev pub invariant-loop-place : goal.invariant-loop-place
@@ -8,4 +7,3 @@ invariant-loop-place l = Gathered l.level.0 l.held l.masks l.levels l.initial.lo
 
 abbrev pub decreases-loop-place : goal.decreases-loop-place
 decreases-loop-place l = l.held - l.place
-

@@ -1,6 +1,5 @@
 use borrow.Author.Rules.{rules}
-use Prim.Native.Nat.{◌-◌}
-use Rattle.indexing.proofs.Listing.{Sought, seek_starts, seek_place, seek_level, seek_finds, seek_goes, seek_ends}
+use Rattle.indexing.proofs.Listing.{seek_starts, seek_place, seek_level, seek_finds, seek_goes, seek_ends}
 use Rattle.indexing.proofs.index.is_covered.Goals as goal
 
 pub loop-i-init : goal.loop-i-init

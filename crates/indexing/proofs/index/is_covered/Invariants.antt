@@ -1,6 +1,5 @@
-use borrow.Author.Rules.{rules}
 use Prim.Native.Nat.{◌-◌}
-use Rattle.indexing.proofs.Listing.{Sought, seek_starts, seek_place, seek_level, seek_finds, seek_goes, seek_ends}
+use Rattle.indexing.proofs.Listing.{Sought}
 use Rattle.indexing.proofs.index.is_covered.Given as goal
 
 abbrev pub invariant-loop-i : goal.invariant-loop-i
@@ -8,4 +7,3 @@ invariant-loop-i l = Sought l.level.0 l.held l.listed.upto l.listed.end l.masks 
 
 abbrev pub decreases-loop-i : goal.decreases-loop-i
 decreases-loop-i l = l.listed.end - l.i
-

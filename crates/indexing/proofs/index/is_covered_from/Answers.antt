@@ -1,6 +1,5 @@
 use borrow.Author.Rules.{rules}
-use Prim.Native.Nat.{◌-◌}
-use Rattle.indexing.proofs.Listing.{Rest, rest_starts, rest_finds, rest_goes, rest_ends}
+use Rattle.indexing.proofs.Listing.{rest_starts, rest_finds, rest_goes, rest_ends}
 use Rattle.indexing.proofs.index.is_covered_from.Goals as goal
 
 pub loop-i-init : goal.loop-i-init

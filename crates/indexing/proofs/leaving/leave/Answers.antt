@@ -1,6 +1,5 @@
 use borrow.Author.Rules.{rules}
-use Prim.Native.Nat.{◌-◌}
-use Rattle.indexing.proofs.Leavers.{Leaving, leave_starts, leave_goes, leave_ends}
+use Rattle.indexing.proofs.Leavers.{leave_starts, leave_goes, leave_ends}
 use Rattle.indexing.proofs.leaving.leave.Goals as goal
 
 pub loop-i-init : goal.loop-i-init

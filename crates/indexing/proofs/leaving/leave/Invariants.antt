@@ -1,6 +1,5 @@
-use borrow.Author.Rules.{rules}
 use Prim.Native.Nat.{◌-◌}
-use Rattle.indexing.proofs.Leavers.{Leaving, leave_starts, leave_goes, leave_ends}
+use Rattle.indexing.proofs.Leavers.{Leaving}
 use Rattle.indexing.proofs.leaving.leave.Given as goal
 
 abbrev pub invariant-loop-i : goal.invariant-loop-i
@@ -8,4 +7,3 @@ invariant-loop-i l = Leaving l.mask l.level.0 l.held l.masks l.initial.levels l.
 
 abbrev pub decreases-loop-i : goal.decreases-loop-i
 decreases-loop-i l = l.held - l.i
-

@@ -1,7 +1,4 @@
 use borrow.Author.Rules.{rules}
-use Prim.Native.Nat.{◌-◌}
-use Rattle.masks.specs.Sets.{subset}
-use Rattle.indexing.specs.Index.{Passed}
 use Rattle.indexing.proofs.Finding.{finds_next, finds_none}
 use Rattle.indexing.proofs.Lacking.{lack_starts, lack_goes}
 use Rattle.indexing.proofs.leaving.next_by_lack.Goals as goal

@@ -1,9 +1,6 @@
-use borrow.Author.Rules.{rules}
 use Prim.Native.Nat.{◌-◌}
 use Rattle.masks.specs.Sets.{subset}
 use Rattle.indexing.specs.Index.{Passed}
-use Rattle.indexing.proofs.Finding.{finds_next, finds_none}
-use Rattle.indexing.proofs.Lacking.{lack_starts, lack_goes}
 use Rattle.indexing.proofs.leaving.next_by_lack.Given as goal
 
 abbrev pub invariant-loop-i : goal.invariant-loop-i
@@ -11,4 +8,3 @@ invariant-loop-i l = Passed (λ other. subset other l.mask) l.masks l.from l.to 
 
 abbrev pub decreases-loop-i : goal.decreases-loop-i
 decreases-loop-i l = l.to - l.i
-

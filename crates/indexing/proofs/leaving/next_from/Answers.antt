@@ -1,7 +1,4 @@
 use borrow.Author.Rules.{rules}
-use Prim.Native.Nat.{◌-◌}
-use Rattle.masks.specs.Sets.{subset}
-use Rattle.indexing.specs.Index.{Passed}
 use Rattle.indexing.proofs.Finding.{passes_none, passes_one, finds_next, finds_none}
 use Rattle.indexing.proofs.leaving.next_from.Goals as goal
 

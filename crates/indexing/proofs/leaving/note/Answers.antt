@@ -1,6 +1,5 @@
 use borrow.Author.Rules.{rules}
-use Prim.Native.Nat.{◌-◌}
-use Rattle.indexing.proofs.Lacking.{Noting, note_starts, note_goes, note_full, note_ends}
+use Rattle.indexing.proofs.Lacking.{note_starts, note_goes, note_full, note_ends}
 use Rattle.indexing.proofs.leaving.note.Goals as goal
 
 pub loop-i-init : goal.loop-i-init

@@ -1,8 +1,5 @@
 use borrow.Author.Rules.{rules}
-use Prim.Native.Nat.{◌-◌}
-use lib.Dec.{eqb}
 use Rattle.indexing.proofs.Finding.{passes_one, finds_next, finds_none}
-use Rattle.indexing.specs.Index.{Passed}
 use Rattle.indexing.proofs.searching.next_at.Goals as goal
 
 pub returns-then-equals : goal.returns-then-equals

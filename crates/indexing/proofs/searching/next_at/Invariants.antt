@@ -1,7 +1,5 @@
-use borrow.Author.Rules.{rules}
 use Prim.Native.Nat.{◌-◌}
 use lib.Dec.{eqb}
-use Rattle.indexing.proofs.Finding.{passes_one, finds_next, finds_none}
 use Rattle.indexing.specs.Index.{Passed}
 use Rattle.indexing.proofs.searching.next_at.Given as goal
 
@@ -10,4 +8,3 @@ invariant-loop-i l = Passed (λ other. eqb other l.level.0) l.levels l.from l.to
 
 abbrev pub decreases-loop-i : goal.decreases-loop-i
 decreases-loop-i l = l.to - l.i
-

@@ -1,8 +1,5 @@
 use borrow.Author.Rules.{rules}
-use Prim.Native.Nat.{◌-◌}
-use Rattle.masks.specs.Sets.{subset}
 use Rattle.indexing.proofs.Finding.{passes_one, finds_next, finds_none}
-use Rattle.indexing.specs.Index.{Passed}
 use Rattle.indexing.proofs.searching.next_containing.Goals as goal
 
 pub returns-then-subset_low : goal.returns-then-subset_low

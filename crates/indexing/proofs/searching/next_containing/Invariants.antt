@@ -1,7 +1,5 @@
-use borrow.Author.Rules.{rules}
 use Prim.Native.Nat.{◌-◌}
 use Rattle.masks.specs.Sets.{subset}
-use Rattle.indexing.proofs.Finding.{passes_one, finds_next, finds_none}
 use Rattle.indexing.specs.Index.{Passed}
 use Rattle.indexing.proofs.searching.next_containing.Given as goal
 
@@ -10,4 +8,3 @@ invariant-loop-i l = Passed (λ other. subset l.set other) l.low l.from l.to l.i
 
 abbrev pub decreases-loop-i : goal.decreases-loop-i
 decreases-loop-i l = l.to - l.i
-

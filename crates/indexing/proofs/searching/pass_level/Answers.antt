@@ -1,9 +1,5 @@
 use borrow.Author.Rules.{rules}
-use Prim.Native.Nat.{◌-◌}
-use lib.ListN.{length}
-use lib.Dec.{eqb}
 use Rattle.indexing.proofs.Finding.{passes_begin, passes_to, passes_all, passes_block}
-use Rattle.indexing.specs.Index.{Passed}
 use Rattle.indexing.proofs.searching.pass_level.Goals as goal
 
 pub loop-i-init : goal.loop-i-init

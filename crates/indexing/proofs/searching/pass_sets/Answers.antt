@@ -1,9 +1,5 @@
 use borrow.Author.Rules.{rules}
-use Prim.Native.Nat.{◌-◌}
-use lib.ListN.{length}
-use Rattle.masks.specs.Sets.{subset}
 use Rattle.indexing.proofs.Finding.{passes_begin, passes_to, passes_all, passes_block}
-use Rattle.indexing.specs.Index.{Passed}
 use Rattle.indexing.proofs.searching.pass_sets.Goals as goal
 
 pub loop-i-init : goal.loop-i-init

@@ -1,8 +1,6 @@
-use borrow.Author.Rules.{rules}
 use Prim.Native.Nat.{◌-◌}
 use lib.ListN.{length}
 use Rattle.masks.specs.Sets.{subset}
-use Rattle.indexing.proofs.Finding.{passes_begin, passes_to, passes_all, passes_block}
 use Rattle.indexing.specs.Index.{Passed}
 use Rattle.indexing.proofs.searching.pass_sets.Given as goal
 
@@ -11,4 +9,3 @@ invariant-loop-i l = Passed (λ other. subset l.set other) l.low l.from (length 
 
 abbrev pub decreases-loop-i : goal.decreases-loop-i
 decreases-loop-i l = l.to - l.i
-

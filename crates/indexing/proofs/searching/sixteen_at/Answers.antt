@@ -1,7 +1,5 @@
 use borrow.Author.Rules.{rules}
-use Prim.Native.Nat.{◌-◌}
-use lib.Dec.{eqb}
-use Rattle.indexing.proofs.Finding.{Joined, joins_none, joins_more, joins_all}
+use Rattle.indexing.proofs.Finding.{joins_none, joins_more, joins_all}
 use Rattle.indexing.proofs.searching.sixteen_at.Goals as goal
 
 pub loop-i-init : goal.loop-i-init

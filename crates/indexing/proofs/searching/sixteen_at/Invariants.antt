@@ -1,7 +1,6 @@
-use borrow.Author.Rules.{rules}
 use Prim.Native.Nat.{◌-◌}
 use lib.Dec.{eqb}
-use Rattle.indexing.proofs.Finding.{Joined, joins_none, joins_more, joins_all}
+use Rattle.indexing.proofs.Finding.{Joined}
 use Rattle.indexing.proofs.searching.sixteen_at.Given as goal
 
 abbrev pub invariant-loop-i : goal.invariant-loop-i
@@ -9,4 +8,3 @@ invariant-loop-i l = Joined (λ other. eqb other l.level.0) l.levels l.at 16 l.i
 
 abbrev pub decreases-loop-i : goal.decreases-loop-i
 decreases-loop-i l = 16 - l.i
-

@@ -1,8 +1,6 @@
 use borrow.Author.Rules.{rules}
-use Prim.Native.Nat.{◌-◌}
-use lib.ListN.{length}
 use Rattle.writing.proofs.LinesPut.{below_limit}
-use Rattle.printing.proofs.Lines.{Printing, printing_starts, printing_next, printing_passed, printing_ends}
+use Rattle.printing.proofs.Lines.{printing_starts, printing_next, printing_passed, printing_ends}
 use Rattle.printing.proofs.print.put_lines.Goals as goal
 
 pub loop-i-init : goal.loop-i-init

@@ -1,8 +1,6 @@
-use borrow.Author.Rules.{rules}
 use Prim.Native.Nat.{◌-◌}
 use lib.ListN.{length}
-use Rattle.writing.proofs.LinesPut.{below_limit}
-use Rattle.printing.proofs.Lines.{Printing, printing_starts, printing_next, printing_passed, printing_ends}
+use Rattle.printing.proofs.Lines.{Printing}
 use Rattle.printing.proofs.print.put_lines.Given as goal
 
 abbrev pub invariant-loop-i : goal.invariant-loop-i
@@ -10,4 +8,3 @@ invariant-loop-i l = Printing l.word l.table l.start l.initial.room l.room l.end
 
 abbrev pub decreases-loop-i : goal.decreases-loop-i
 decreases-loop-i l = length l.word - l.i
-

@@ -1,5 +1,5 @@
 use borrow.Author.Rules.{rules}
-use Rattle.printing.proofs.SetsBehind.{Filling, filling_starts, filling_place, filling_known, filling_next, filling_long, filled_back, filled_table}
+use Rattle.printing.proofs.SetsBehind.{filling_starts, filling_place, filling_known, filling_next, filled_back, filled_table}
 use Rattle.printing.proofs.steps.fill.Goals as goal
 
 pub loop-i-init : goal.loop-i-init

@@ -1,5 +1,4 @@
-use borrow.Author.Rules.{rules}
-use Rattle.printing.proofs.SetsBehind.{Filling, filling_starts, filling_place, filling_known, filling_next, filling_long, filled_back, filled_table}
+use Rattle.printing.proofs.SetsBehind.{Filling}
 use Rattle.printing.proofs.steps.fill.Given as goal
 
 abbrev pub invariant-loop-i : goal.invariant-loop-i
@@ -7,4 +6,3 @@ invariant-loop-i l = Filling l.image l.word l.z l.initial.table l.table l.case l
 
 abbrev pub decreases-loop-i : goal.decreases-loop-i
 decreases-loop-i l = l.i
-

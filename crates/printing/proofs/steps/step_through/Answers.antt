@@ -1,8 +1,6 @@
 use borrow.Author.Rules.{rules}
-use Prim.Native.Nat.{◌-◌}
-use lib.ListN.{length}
 use Rattle.automata.proofs.WordTests.{symbol_known}
-use Rattle.printing.proofs.Stepping.{Stepping, stepping_starts, stepping_place, stepping_next, stepping_long, stepped_last, stepped_table}
+use Rattle.printing.proofs.Stepping.{stepping_starts, stepping_place, stepping_next, stepped_last, stepped_table}
 use Rattle.printing.proofs.steps.step_through.Goals as goal
 
 pub loop-i-init : goal.loop-i-init
