@@ -36,6 +36,11 @@ fn cited(repository: &Repository, title: &str) -> Cited {
 #[test]
 fn every_name_is_there() {
     let repository = Repository::read(&root());
+    let is_built = |file: &str| file.starts_with("crates/") && file.contains("/out/");
+    assert!(
+        !repository.files().any(is_built),
+        "a crate's out/ declares nothing"
+    );
     let mut wrong = Vec::new();
     let mut exceptions = BTreeSet::new();
     for title in PAGES {
@@ -88,15 +93,29 @@ fn small_repository() -> Repository {
             "crates/lists/src/lib.rt",
             "pub struct Kept {\n    pub held: usize,\n}\n\nimpl Kept {\n    pub fn more(self) -> Kept \
              {\n        called(self)\n    }\n}\n\npub fn first(list: &[u8]) -> u8\n    ensures \
-             { .. }\n{\n}\n\nfn plain() {\n}\n",
+             { .. }\n{\n}\n\npub extern \"C\" fn last(list: &[u8]) -> u8\n    requires few { .. }\n    \
+             ensures byte { .. }\n    ensures near { .. }\n{\n}\n\nfn plain() {\n    first(ensures)\n}\n",
         ),
         ("crates/lists/src/walks.rt", "pub(crate) fn walk() {\n}\n"),
         ("crates/lists/must-fail/last_found.edit", ""),
         (
+            "crates/lists/specs/Answers.antt",
+            "infixr 35 ◌both◌\nunfoldable pub ◌both◌ : Bool → Bool → Bool\na both b = a\n\npub data Found \
+             : Type 0 where\n  pub nowhere : Found\n",
+        ),
+        (
+            "crates/lists/proofs/walks/walk/Answers.antt",
+            "pub returns : goal.returns\nreturns c = search rules\n",
+        ),
+        (
+            "crates/lists/proofs/walks/walk/Invariants.antt",
+            "abbrev pub invariant_loop : goal.invariant_loop\n",
+        ),
+        (
             PROMISES,
             "-- gone : said in a comment\npub record Rules : Type 0 where\n  pub empty : ℕ\n\npub \
              record Promises : Type 0 where\n  pub runs : (image : List ℕ)\n      → Rules image\n\n\
-             abbrev pub held-by : ℕ → ℕ\nheld-by n =\n    let local : ℕ = n in local\n",
+             abbrev pub held_by : ℕ → ℕ\nheld_by n =\n    let local : ℕ = n in local\n",
         ),
         ("include/afa.h", "/* afa_gone(0) */\nuint64_t afa_read(const uint8_t *image);\n"),
         ("model-tool/src/help.rs", "const CHECK: &str = \"--json\";\n"),
@@ -124,8 +143,10 @@ fn names_that_stand() {
         "Noticed by lists: `last_found`; tests `spans`, `examples`. The test `spans` (`near`)",
         "`first` and `Kept::more` in\n`lists/src/lib.rt`, `held` of `Kept`, `walk` of `lists::walks`",
         "`lists::walks::walk`, `lists::Kept::more`, `Kept::more`, `walks::walk`, `lists::walks`",
-        "`afa_read`, `held-by`, `Rules`, `lists`, `walks`, `lists/src/`, `include/afa.h`, `src/`",
-        "`first (held-by x) 5`, `--json`, `first LIST ..`",
+        "`afa_read`, `held_by`, `Rules`, `lists`, `walks`, `lists/src/`, `include/afa.h`, `src/`",
+        "`first (held_by x) 5`, `--json`, `first LIST ..`",
+        "`both`. `nowhere` of `Found` and `Found` in `lists/specs/Answers.antt`; contract of `last`",
+        "`byte` and `near` of `last`, `near` of `lists::last`",
         "    `an example`\n",
         "Chosen: `first`, of `Kept`: `more`. It tests `held`",
     ] {
@@ -174,6 +195,8 @@ fn names_that_do_not() {
         ),
         ("`_` of `lists::walks`", "first", "is not in `lists::walks`"),
         ("`_` of `Kept`", "first", "is not in `Kept`"),
+        ("`_` of `last`", "first", "is not in `last`"),
+        ("`_` of `last`", "few", "is not in `last`"),
         ("`_`", "lists/src/gone.rt", "is no file"),
         ("`_`", "gone/", "is no file"),
         ("`_`", "lists::walks::first", "is declared nowhere"),
@@ -181,6 +204,11 @@ fn names_that_do_not() {
         ("`_`", "Kept::first", "is declared nowhere"),
         ("`_`", "gone", "is declared nowhere"),
         ("`_`", "called", "is declared nowhere"),
+        ("`_`", "byte", "is declared nowhere"),
+        ("`_`", "returns", "is declared nowhere"),
+        ("`_`", "invariant_loop", "is declared nowhere"),
+        ("`_`", "held-by", "is declared nowhere"),
+        ("`_`", "held_by'", "is declared nowhere"),
         ("`_`", "local", "is declared nowhere"),
         ("`_`", "afa_gone", "is declared nowhere"),
         ("`_`", "first gone", "is declared nowhere"),

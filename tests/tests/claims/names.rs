@@ -37,14 +37,19 @@ impl Names<'_> {
 
     fn is_place(&self, text: &str) -> bool {
         let is_there = is_path(text) && self.path(text).is_some();
-        is_there || self.is_module(text) || !self.0.members(text).is_empty()
+        let has_members = || !self.0.members(text).is_empty() || self.has_clause(text, None);
+        is_there || self.is_module(text) || has_members()
     }
 
-    /// Whether a file, a module or a record declares the name, or a folder has a file of that name.
+    /// Whether a file, a module or a record declares the name, a folder has a file of that name, or a
+    /// function's contract a clause.
     pub fn stands_in(&self, name: &str, place: &str) -> bool {
-        let module = || self.module(place).map(|(file, _)| file);
+        let module = || {
+            let (file, names) = self.module(place)?;
+            names.is_empty().then_some(file)
+        };
         let Some(path) = self.path(place).filter(|_| is_path(place)).or_else(module) else {
-            return self.0.members(place).contains(&name);
+            return self.0.members(place).contains(&name) || self.has_clause(place, Some(name));
         };
         let folder = format!("{path}/");
         let mut files = self.0.files().filter_map(|file| file.strip_prefix(&folder));
@@ -105,9 +110,15 @@ impl Names<'_> {
 
     /// A function of Rattle that has a contract, or a crate of such.
     pub fn has_contract(&self, name: &str) -> bool {
-        let is_it =
-            |found: &&Declared| found.file.ends_with(".rt") && found.text.contains("ensures");
+        let is_it = |found: &&Declared| clauses(found).next().is_some();
         self.0.is_folder(&format!("crates/{name}")) || self.code(name).iter().any(is_it)
+    }
+
+    /// Whether a function's contract has a clause of that name, or, where none is asked for, one that has a name.
+    fn has_clause(&self, function: &str, name: Option<&str>) -> bool {
+        let found = self.code(function).into_iter();
+        let mut named = found.flat_map(clauses).filter(|clause| !clause.is_empty());
+        named.any(|clause| name.is_none_or(|name| name == clause))
     }
 
     /// The files of a test, of the library's or of the console's.
@@ -146,7 +157,7 @@ impl Names<'_> {
         is_letter(word)
             || !word.contains(char::is_lowercase)
             || is_declared(word)
-            || is_declared(&format!("_{word}_"))
+            || is_declared(&format!("◌{word}◌"))
             || self.path(word).is_some()
             || self.is_test(word)
             || self
@@ -175,6 +186,16 @@ pub fn is_path(text: &str) -> bool {
     !text.contains(' ') && (text.contains('/') || has_end)
 }
 
+/// The clauses of a function's contract, by their names; one that stands alone may have none.
+fn clauses(found: &Declared) -> impl Iterator<Item = &str> {
+    let is_code = found.file.ends_with(".rt");
+    let lines = found.text.lines().filter(move |_| is_code);
+    lines.filter_map(|line| {
+        let (name, _) = line.strip_prefix("ensures ")?.split_once('{')?;
+        Some(name.trim_end())
+    })
+}
+
 /// A letter stands for something else.
 pub fn is_letter(text: &str) -> bool {
     text.chars().count() == 1
@@ -187,7 +208,7 @@ fn stem(file: &str) -> &str {
 }
 
 fn is_of_word(c: char) -> bool {
-    c.is_alphanumeric() || "-_′".contains(c)
+    c.is_alphanumeric() || "-_'".contains(c)
 }
 
 /// Names, options and numbers.

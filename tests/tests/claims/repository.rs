@@ -30,7 +30,7 @@ impl Repository {
 
     pub fn of(files: BTreeMap<String, String>) -> Self {
         let mut declared: HashMap<String, Vec<Declared>> = HashMap::new();
-        for (file, text) in &files {
+        for (file, text) in files.iter().filter(|(file, _)| is_source(file)) {
             for (name, found) in declarations(file, text) {
                 declared.entry(name).or_default().push(found);
             }
@@ -83,6 +83,9 @@ fn read_folder(root: &Path, folder: &str, files: &mut BTreeMap<String, String>) 
         }
         let path = Path::new(folder).join(name);
         let path = path.to_str().expect("a path").to_owned();
+        if is_built(&path) {
+            continue;
+        }
         if entry.file_type().expect("a type").is_dir() {
             read_folder(root, &path, files);
             continue;
@@ -95,10 +98,24 @@ fn read_folder(root: &Path, folder: &str, files: &mut BTreeMap<String, String>) 
     }
 }
 
-/// Whether a file declares names. A `Proof.antt` has some that the proof of one function alone uses.
+/// Whether a folder is a crate's `out/`, with what was built of it and what its checks keep.
+fn is_built(path: &str) -> bool {
+    let parts: Vec<_> = path.split('/').collect();
+    matches!(parts[..], ["crates", _, "out"])
+}
+
+/// Whether a file declares names. What a function's folder in `proofs/` has are some that its proof alone uses.
 pub fn is_source(path: &str) -> bool {
     let ends = [".antt", ".rt", ".rs", ".h"];
-    ends.iter().any(|end| path.ends_with(end)) && !path.ends_with("/Proof.antt")
+    ends.iter().any(|end| path.ends_with(end)) && !is_proof_of_one(path)
+}
+
+fn is_proof_of_one(path: &str) -> bool {
+    let parts: Vec<_> = path.split('/').collect();
+    match parts[..] {
+        ["crates", _, "proofs", _, .., "Answers.antt" | "Invariants.antt"] => true,
+        _ => path.ends_with("/Proof.antt"),
+    }
 }
 
 /// What a declaration has inside: its lines are indented more than its first.
