@@ -1,5 +1,5 @@
-//! Links the proved static library. It is built beforehand: in `../target/staticlib`, or in the folder
-//! that AFA_LIB_DIR names.
+//! Links the proved static library. It is built beforehand: in `../crates/exports/out`, or in the
+//! folder that AFA_LIB_DIR names.
 
 use std::env;
 use std::path::PathBuf;
@@ -9,7 +9,7 @@ fn main() {
         Some(folder) => PathBuf::from(folder),
         None => {
             let package = env::var_os("CARGO_MANIFEST_DIR").expect("cargo names the package");
-            PathBuf::from(package).join("../target/staticlib")
+            PathBuf::from(package).join("../crates/exports/out")
         }
     };
     let archive = folder.join("libexports.a");
@@ -17,8 +17,8 @@ fn main() {
     println!("cargo::rerun-if-changed={}", archive.display());
     if !archive.is_file() {
         println!(
-            "cargo::error={} is missing: run `bash model-tool/afa --help`, or `rt staticlib exports` in \
-             the repository's root first, or name the archive's folder in AFA_LIB_DIR",
+            "cargo::error={} is missing: run `bash model-tool/afa --help` in the repository's root, or `rt lib` \
+             in crates/exports first, or name the archive's folder in AFA_LIB_DIR",
             archive.display()
         );
         return;

@@ -1,5 +1,5 @@
-//! Links the static libraries that the tests call. They are built beforehand: in
-//! `../target/staticlib`, or in the folder that AFA_LIB_DIR names.
+//! Links the static libraries that the tests call. They are built beforehand: in the folder `out/` of
+//! their crates, or both in the folder that AFA_LIB_DIR names.
 
 use std::env;
 use std::path::PathBuf;
@@ -8,27 +8,26 @@ use std::path::PathBuf;
 const ARCHIVES: [&str; 2] = ["exports", "probes"];
 
 fn main() {
-    let folder = match env::var_os("AFA_LIB_DIR") {
-        Some(folder) => PathBuf::from(folder),
-        None => {
-            let package = env::var_os("CARGO_MANIFEST_DIR").expect("cargo names the package");
-            PathBuf::from(package).join("../target/staticlib")
-        }
-    };
     println!("cargo::rerun-if-env-changed=AFA_LIB_DIR");
-    println!("cargo::rustc-link-search=native={}", folder.display());
     for name in ARCHIVES {
+        let folder = match env::var_os("AFA_LIB_DIR") {
+            Some(folder) => PathBuf::from(folder),
+            None => {
+                let package = env::var_os("CARGO_MANIFEST_DIR").expect("cargo names the package");
+                PathBuf::from(package).join(format!("../crates/{name}/out"))
+            }
+        };
         let archive = folder.join(format!("lib{name}.a"));
         println!("cargo::rerun-if-changed={}", archive.display());
         if !archive.is_file() {
             println!(
-                "cargo::error={} is missing: run `bash .ci/run`, or `rt staticlib exports` and `rt \
-                 staticlib probes`, in the repository's root first, or name the archives' folder in \
-                 AFA_LIB_DIR",
+                "cargo::error={} is missing: run `bash .ci/run` in the repository's root, or `rt lib` in \
+                 crates/exports and in crates/probes first, or name the archives' folder in AFA_LIB_DIR",
                 archive.display()
             );
             return;
         }
+        println!("cargo::rustc-link-search=native={}", folder.display());
         println!("cargo::rustc-link-lib=static={name}");
     }
 }

@@ -3,7 +3,7 @@
 
 mod common;
 
-use common::{afa, assert_refused, on_two_threads, scratch, with_digest, Ended, Random};
+use common::{afa, assert_refused, on_two_threads, scratch, with_digest, Ended, Outside, Random};
 use std::fs;
 use std::path::Path;
 use std::sync::atomic::{AtomicUsize, Ordering};
@@ -324,7 +324,7 @@ fn a_stop_writes_the_saved_run_whole() {
 /// A name that leads to the file stands for it: an older run is kept there too.
 #[test]
 fn an_older_saved_run_behind_a_link_is_kept() {
-    let folder = scratch("saves-link");
+    let folder = Outside::new("saves-link");
     let (save, link) = (folder.join("a.run"), folder.join("link.run"));
     let stop = ["--allowance", "30", "--save", text(&save)];
     assert_stopped(&check("models/stall.txt", &stop), "stall");

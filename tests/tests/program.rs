@@ -1,5 +1,5 @@
-//! The built program, `target/bin/emptiness`, on images of every kind: both lines that it prints,
-//! against what the machine gives in the program's rooms.
+//! The built program, `crates/emptiness/out/emptiness`, on images of every kind: both lines that it
+//! prints, against what the machine gives in the program's rooms.
 
 use afa_tests::compare::hexadecimal;
 use afa_tests::damage::DAMAGES;
@@ -59,10 +59,10 @@ fn spaced<T: Display>(numbers: &[T]) -> String {
 
 /// What the program prints on the input, which is written to it in these pieces.
 fn printed(pieces: &[&[u8]]) -> String {
-    let program = root().join("target/bin/emptiness");
+    let program = root().join("crates/emptiness/out/emptiness");
     assert!(
         program.is_file(),
-        "{} is missing: run `bash .ci/run` or `rt check emptiness` in the repository's root first",
+        "{} is missing: run `bash .ci/run` in the repository's root, or `rt run` in crates/emptiness first",
         program.display()
     );
     let mut child = Command::new(program)

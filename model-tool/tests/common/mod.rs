@@ -9,6 +9,7 @@ pub use random::Random;
 
 use std::fs;
 use std::io::Write;
+use std::ops::Deref;
 use std::path::{Path, PathBuf};
 use std::process::{Command, Output, Stdio};
 use std::thread::sleep;
@@ -28,6 +29,35 @@ pub fn scratch(name: &str) -> PathBuf {
     }
     fs::create_dir_all(&folder).unwrap();
     folder
+}
+
+/// A folder of its own outside the repository, empty, that goes with the test. For links and for the files
+/// of crates: the gate refuses both wherever they lie below the repository's root, also in what cargo made.
+pub struct Outside(PathBuf);
+
+impl Outside {
+    pub fn new(name: &str) -> Self {
+        let folder = std::env::temp_dir().join(format!("afa-{name}-{}", std::process::id()));
+        if folder.exists() {
+            fs::remove_dir_all(&folder).unwrap();
+        }
+        fs::create_dir_all(&folder).unwrap();
+        Outside(folder)
+    }
+}
+
+impl Deref for Outside {
+    type Target = Path;
+
+    fn deref(&self) -> &Path {
+        &self.0
+    }
+}
+
+impl Drop for Outside {
+    fn drop(&mut self) {
+        let _ = fs::remove_dir_all(&self.0);
+    }
 }
 
 /// How a command ended: its exit status, standard output and standard error.
