@@ -7,7 +7,7 @@ use std::collections::BTreeSet;
 
 /// What pages have in backquotes though the repository does not declare it, and why: spans, or words of
 /// phrases.
-pub const EXCEPTIONS: [(&str, &str); 27] = [
+pub const EXCEPTIONS: [(&str, &str); 24] = [
     ("pub", RATTLE),
     ("requires", RATTLE),
     ("let", RATTLE),
@@ -16,13 +16,10 @@ pub const EXCEPTIONS: [(&str, &str); 27] = [
     ("mut", RATTLE),
     ("true", RATTLE),
     ("search", RATTLE),
-    ("needs", RATTLE),
     ("&&", RATTLE),
     ("let Image::Valid(..) = .. else", RATTLE),
-    ("start-of : tie.After-above → tie.Start", RATTLE),
     ("rt", COMMAND),
     ("ci", COMMAND),
-    ("staticlib", COMMAND),
     ("cargo", COMMAND),
     ("bench", COMMAND),
     ("--bench", COMMAND),
@@ -30,8 +27,8 @@ pub const EXCEPTIONS: [(&str, &str); 27] = [
     ("check model && release", COMMAND),
     ("[profile.bench]", "a part of tests/Cargo.toml"),
     ("N passed, 0 failed", "what the gate prints"),
-    ("target/bin/emptiness", BUILT),
-    ("target/staticlib/libexports.a", BUILT),
+    ("crates/emptiness/out/emptiness", BUILT),
+    ("crates/exports/out/libexports.a", BUILT),
     ("model-tool/target/release/afa", BUILT),
     ("31 0a 30 20 36 0a 31 20 30 0a", "the bytes of an example"),
     ("{}", "the empty set in a file of hints"),
