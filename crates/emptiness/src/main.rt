@@ -2,7 +2,8 @@
 // Proved of it is which bytes it makes of those that it has read (`report`); that it reads and writes them is tried by running.
 #![tactic(auto)]
 
-ghost use Rattle.std.specs.Prelude.{◌≡◌, ◌≤◌, length, IfOk};
+ghost use Rattle.std.specs.Prelude.{◌≡◌, ◌≤◌, ◌<◌, length, take, IfOk};
+ghost use Rattle.std.specs.Io.KnownBytes.{Consumes, IsAtEnd};
 ghost use Rattle.automata.specs.Answers.{image_number};
 ghost use Rattle.writing.specs.Rooms.{answer_of, fitted_bytes};
 ghost use Rattle.machine.specs.Program.{program_prints};
@@ -57,17 +58,20 @@ fn report(image: &[u8], room: &mut [u8]) -> Written
     reporting::lines(run, &masks, &symbols, room)
 }
 
-// Fills the bytes from the input, as far as it goes; answers how many were read.
+// Fills the bytes from the input, as far as it goes; answers how many were read. Those stand in front, and if there are fewer than there is room for, the input is
+// at its end.
 fn read_full<R: Read>(input: &mut R, bytes: &mut [u8]) -> io::Result<usize>
-    ensures { IfOk result (λ size. size ≤ length bytes.new) }
+    ensures within { IfOk result (λ size. size ≤ length bytes.new) }
+    ensures read { IfOk result (λ size. Consumes (R.remaining input.old) (R.remaining input.new) (take size bytes.new)) }
+    ensures end { IfOk result (λ size. size < length bytes.new → IsAtEnd (R.remaining input.new)) }
 {
     let mut size = 0;
     for _ in 0..u64::MAX {
         if size >= bytes.len() {
-            break;
+            return Ok(size);
         }
         match input.read(&mut bytes[size..]) {
-            Ok(0) => break,
+            Ok(0) => return Ok(size),
             Ok(more) => size += more,
             Err(error) => {
                 if error.kind() != ErrorKind::Interrupted {
@@ -76,7 +80,7 @@ fn read_full<R: Read>(input: &mut R, bytes: &mut [u8]) -> io::Result<usize>
             }
         }
     }
-    Ok(size)
+    Err(io::Error::from(ErrorKind::TimedOut))
 }
 
 fn main(rt: HostRuntime) -> io::Result<()> {
