@@ -1,22 +1,23 @@
--- The checks of an image: what each loop of the reader has found, the tests by what was read and called, and the numbers that they answer. Assumes nothing.
-use Prim.Native.Nat.{ℕ, ◌+◌, ◌-◌, ◌*◌, ◌%◌, ◌≤◌, ◌<◌}
-use mathlib.Core.Path.{◌≡◌, sym, ap, ◌∙◌}
-use mathlib.Core.Bool.{Bool, true, false, not}
+-- The checks of an image: what the loop over the pairs has found, the tests by what was read and called, and the numbers that they answer. Assumes nothing.
+use Prim.Native.Nat.{ℕ, zero, suc, ◌+◌, ◌-◌, ◌*◌, ◌%◌, ◌≤◌, ◌<◌}
+use mathlib.Core.Path.{◌≡◌, refl, sym, ap, ◌∙◌}
+use mathlib.Core.Bool.{Bool, true, false, ◌&&◌}
 use mathlib.Core.List.{List}
 use mathlib.Core.Logic.{◌⊎◌, inl, inr}
 use native.Mathlib.Nat.{sub-zero}
 use native.Mathlib.Numerals.{add-one}
 use native.Mathlib.Omega.{arith}
 use borrow.Author.Rules.{rules}
-use borrow.Author.Tests.{eq-eqb, ne_eqb, lt-ltb, le-ltb, not-true, not-false}
+use borrow.Author.Tests.{eq-eqb, ne_eqb, lt-ltb, le-ltb}
 use lib.Dec.{eqb, ltb}
 use lib.ListN.{length}
+use Rattle.std.specs.List.{list_all, range_with_len}
 use Rattle.lists.specs.Tests.{◌and◌, neg}
 use Rattle.lists.specs.Lists.{each_from}
 use Rattle.lists.proofs.Lists.{each_from_fails, each_from_holds, each_from_ends}
 use Rattle.masks.specs.Sets.{within}
-use Rattle.automata.specs.Image.{states_of, symbols_of, row_count_of, offset_of, size_of, row_at}
-use Rattle.automata.specs.Image.{span_start, pair_holds, pairs_hold, row_holds, rows_hold, outside, check, check_image}
+use Rattle.automata.specs.Image.{states_of, symbols_of, offset_of, size_of, row_at}
+use Rattle.automata.specs.Image.{span_start, pair_holds, pairs_hold, row_holds, outside, check, check_image}
 use Rattle.automata.proofs.Chained.{checks}
 
 -- the loop over the pairs, before that of symbol s: where its span is to start, and what is still to be tested
@@ -77,39 +78,23 @@ module _ (image : List ℕ) (i at symbols : ℕ) (k : symbols ≡ symbols_of ima
   unfolding row_holds ◌and◌
   row_case case r l q w = rw (← k, ← e, lt-ltb _ _ l, ← q, w)
 
--- the loop over the rows, before row i
-pub record RowsLeft (image : List ℕ) (rows i : ℕ) : Type 0 where
-  pub count : rows ≡ row_count_of image
-  pub bound : i ≤ rows
-  pub rest : each_from (row_holds image) (rows - i) i ≡ each_from (row_holds image) rows 0
-
-pub rows_none : {image : List ℕ} {rows : ℕ} → rows ≡ row_count_of image → RowsLeft image rows 0
-rows_none {image} {rows} e =
-    record { count = e; bound = omega arith; rest = ap (λ (k : ℕ). each_from (row_holds image) k 0) (sub-zero rows) }
-
-module _ {image : List ℕ} {rows i : ℕ} (left : RowsLeft image rows i) where
-  pub row_fails : (r : Bool) → i < rows → r ≡ row_holds image i → not r ≡ true → false ≡ rows_hold image
-  unfolding rows_hold
-  row_fails r l e n = rw (← left.count, ← left.rest, each_from_fails (row_holds image) rows i l (sym e ∙ not-true r n))
-
-  pub row_next : (r : Bool) → i < rows → r ≡ row_holds image i → not r ≡ false → RowsLeft image rows (i + 1)
-  row_next r l e n =
-      record {
-        count = left.count;
-        bound = omega arith;
-        rest = sym (each_from_holds (row_holds image) rows i l (sym e ∙ not-false r n)) ∙ left.rest;
-      }
-
-  pub rows_end : rows ≤ i → true ≡ rows_hold image
-  unfolding rows_hold
-  rows_end l = rw (← left.count, ← left.rest, each_from_ends (row_holds image) rows i l)
+-- std's test of each number of a range
+pub each_listed : (test : ℕ → Bool) (count start : ℕ) → list_all test (range_with_len start count) ≡ each_from test count start
+unfolding each_from ◌and◌
+each_listed test zero start = refl
+each_listed test (suc count) start = rw (add-one start) (at (test start) (each_listed test count (suc start)))
+  where
+    at : (b : Bool) → list_all test (range_with_len (suc start) count) ≡ each_from test count (suc start)
+        → (b && list_all test (range_with_len (suc start) count)) ≡ (b and each_from test count (suc start))
+    at true e = e
+    at false e = refl
 
 -- the tests of the checks, where r is a number that was read or what a call answered
 pub read_above : (a b r : ℕ) (value : Bool) → r ≡ b → ltb a r ≡ value → ltb a b ≡ value
 read_above a b r value e q = rw (← e) q
 
-pub read_whole : (size a b c k m r s : ℕ) (value : Bool) → r ≡ k → s ≡ m → eqb size (a + b * r + c * s) ≡ value → eqb size (a + b * k + c * m) ≡ value
-read_whole size a b c k m r s value e q p = rw (← e, ← q) p
+pub read_whole : (size a b c k m r s t : ℕ) (value : Bool) → r ≡ k → s ≡ t → t ≡ m → eqb size (a + b * r + c * s) ≡ value → eqb size (a + b * k + c * m) ≡ value
+read_whole size a b c k m r s t value e q u p = rw (← e, ← u, ← q) p
 
 pub read_within : (n case r : ℕ) (value : Bool) → r ≡ case → neg (within n r) ≡ value → neg (within n case) ≡ value
 read_within n case r value e q = rw (← e) q

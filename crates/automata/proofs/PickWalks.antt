@@ -1,25 +1,30 @@
 -- One walk over the rows picks for all states: a row by the tests of the code, the walk on its way, and that it ends with the case reached. Assumes nothing.
-use Prim.Native.Nat.{ℕ, ◌+◌, ◌≤◌, ◌<◌}
+use Prim.Native.Nat.{ℕ, ◌+◌, ◌-◌, ◌≤◌, ◌<◌}
 use mathlib.Core.Path.{◌≡◌, refl, sym, ap, subst, ◌∙◌}
 use mathlib.Core.Bool.{Bool, true, false, not}
-use mathlib.Core.List.{List, [], ◌∷◌}
+use mathlib.Core.List.{List, [], ◌∷◌, ◌++◌, append_assoc}
 use mathlib.Core.Logic.{◌⊎◌, inl, inr, ◌↔◌}
 use mathlib.Core.Option.{some}
 use native.Mathlib.Decide.{ℕ_discrete}
 use native.Mathlib.Omega.{arith}
 use borrow.Author.Tests.{not-true, not-false}
 use lib.Dec.{T}
+use lib.ListN.{length, take, drop}
+use Rattle.std.proofs.Math.ListN.{get_or-append}
+use Rattle.std.proofs.lemmas.List.{get_or-append-add, take-append-drop, length-append, length-take, length-drop}
+use Rattle.lists.proofs.Lists.{each_more, in_none}
 use Rattle.lists.specs.Tests.{◌and◌}
 use Rattle.lists.specs.Lists.{Each, first_of}
 use Rattle.lists.proofs.Tests.{holds, fails, is_true, is_false, and_left, and_right, and_both, choose_true, choose_false}
 use Rattle.masks.specs.Sets.{Member, subset, union, single, absent}
 use Rattle.masks.proofs.Laws.{members_subset, subset_antisymmetric, empty_members, union_members, single_members, absent_means}
-use Rattle.automata.specs.Image.{Row, states_of, row_at}
+use Rattle.automata.specs.Bytes.{byte_at, little2, little4, little8}
+use Rattle.automata.specs.Image.{Row, states_of, row_at, rows_from}
 use Rattle.automata.specs.declared.rows.Row as Read
-use Rattle.automata.specs.Walk.{row_of, rows_between, Span, AtRow, pick_row}
+use Rattle.automata.specs.Walk.{row_of, RowsStand, rows_between, Span, AtRow, pick_row}
 use Rattle.automata.specs.Picks.{fits, picks, reached}
 use Rattle.automata.specs.declared.picks.Picked.{Picked}
-use Rattle.automata.proofs.RowWalks.{first_row, one_further, rows_ahead, none_ahead}
+use Rattle.automata.proofs.RowWalks.{state_fits, one_stands, first_row, one_further, rows_ahead, none_ahead}
 use Rattle.automata.proofs.PickedRuns.{fits_means, picked_row, same_row, PicksTo, picks_same, reached_members}
 
 -- what all rows give
@@ -250,3 +255,92 @@ module _ {image : List ℕ} {start end set X at : ℕ} {so_far : Picked} (pickin
   pub picking_ends : end ≤ at → so_far.case ≡ reached (states_of image) (rows_between image start end) set X
   unfolding pick_rows
   picking_ends l = answers (ap (pick_rows set X so_far) (none_ahead picking.at_row l))
+
+-- the nine bytes of a row, cut out of the image, say what it says
+module _ (before cut after : List ℕ) (nine : length cut ≡ 9) where
+  byte_in : (i at : ℕ) → i < 9 → at ≡ length before + i → byte_at (before ++ (cut ++ after)) at ≡ byte_at cut i
+  byte_in i at l e =
+      ap (λ (place : ℕ). byte_at (before ++ (cut ++ after)) place) e
+      ∙ get_or-append-add before (cut ++ after) i 0
+      ∙ get_or-append cut after 0 i (omega (arith, nine))
+
+  row_in : (at : ℕ) → at ≡ length before → row_at (before ++ (cut ++ after)) at ≡ row_at cut 0
+  unfolding little8 little4 little2
+  row_in at e =
+      rw (
+        byte_in 0 at (omega arith) (omega (arith, e)),
+        byte_in 1 (at + 1) (omega arith) (omega (arith, e)),
+        byte_in 2 (at + 1 + 1) (omega arith) (omega (arith, e)),
+        byte_in 3 (at + 1 + 2) (omega arith) (omega (arith, e)),
+        byte_in 4 (at + 1 + 2 + 1) (omega arith) (omega (arith, e)),
+        byte_in 5 (at + 1 + 4) (omega arith) (omega (arith, e)),
+        byte_in 6 (at + 1 + 4 + 1) (omega arith) (omega (arith, e)),
+        byte_in 7 (at + 1 + 4 + 2) (omega arith) (omega (arith, e)),
+        byte_in 8 (at + 1 + 4 + 2 + 1) (omega arith) (omega (arith, e)),
+      ) refl
+
+-- the walk over cuts of nine bytes, with the bytes of the rows from `at` on still to be cut
+pub record PickingCuts (image : List ℕ) (start end set X : ℕ) (so_far : Picked) (rest : List ℕ) : Type 0 where
+  pub at : ℕ
+  pub picking : Picking image start end set X so_far at
+  pub before : List ℕ
+  pub after : List ℕ
+  pub whole : image ≡ before ++ (rest ++ after)
+  pub place : at ≡ length before
+  pub left : length rest ≡ end - at
+
+pub cuts_start : {image : List ℕ} {start end set X : ℕ} → Span image start end
+    → PickingCuts image start end set X (record { states = 0; case = 0 }) (take (end - start) (drop start image))
+cuts_start {image} {start} {end} {set} {X} span =
+    record {
+      at = start;
+      picking = picking_starts span;
+      before = take start image;
+      after = drop (end - start) (drop start image);
+      whole =
+          sym (take-append-drop start image)
+          ∙ ap (λ (l : List ℕ). take start image ++ l) (sym (take-append-drop (end - start) (drop start image)));
+      place = omega (arith, length-take start image, span.ordered, span.inside);
+      left = omega (arith, length-take (end - start) (drop start image), length-drop start image, span.ordered, span.inside);
+    }
+
+module _ {image : List ℕ} {start end set X : ℕ} {so_far : Picked} {rest : List ℕ} (cuts : PickingCuts image start end set X so_far rest) where
+  pub cuts_all : so_far.states ≡ X → so_far.case ≡ reached (states_of image) (rows_between image start end) set X
+  cuts_all = all_have_picked cuts.picking
+
+  pub cuts_end : length rest < 9 → so_far.case ≡ reached (states_of image) (rows_between image start end) set X
+  cuts_end l = picking_ends cuts.picking (omega (arith, cuts.left, cuts.picking.at_row.place, cuts.picking.at_row.span.nines))
+
+  module _ (cut more : List ℕ) (e : rest ≡ cut ++ more) (nine : length cut ≡ 9) where
+    split : image ≡ cuts.before ++ (cut ++ (more ++ cuts.after))
+    split = cuts.whole ∙ ap (λ (l : List ℕ). cuts.before ++ l) (ap (λ (l : List ℕ). l ++ cuts.after) e ∙ append_assoc cut more cuts.after)
+
+    longer : length rest ≡ 9 + length more
+    longer = rw (e, length-append cut more, nine) refl
+
+    ahead : cuts.at < end
+    ahead = omega (arith, longer, cuts.left)
+
+    read_so : row_at image cuts.at ≡ row_at cut 0
+    read_so = rw split (row_in cuts.before cut (more ++ cuts.after) nine cuts.at cuts.place)
+
+    pub cut_stands : RowsStand cut 1 0
+    unfolding rows_from
+    cut_stands =
+        record {
+          inside = omega (arith, nine);
+          states =
+              each_more (subst (λ (row : Row). row.state < 64) read_so (state_fits (one_stands cuts.picking.at_row ahead))) (λ row m. absurd (in_none m));
+        }
+
+    pub cuts_go : (picked : Picked) → picked ≡ pick_row set X so_far (row_at cut 0) → PickingCuts image start end set X picked more
+    cuts_go picked p =
+        record {
+          at = cuts.at + 9;
+          picking = picking_next cuts.picking picked ahead (p ∙ ap (pick_row set X so_far) (sym read_so));
+          before = cuts.before ++ cut;
+          after = cuts.after;
+          whole = split ∙ sym (append_assoc cuts.before cut (more ++ cuts.after));
+          place = rw (length-append cuts.before cut, nine, cuts.place) refl;
+          left = omega (arith, longer, cuts.left);
+        }

@@ -2,15 +2,15 @@
 use Prim.Native.Nat.{ℕ, zero, suc, ◌+◌, ◌-◌, ◌*◌, ◌/◌, ◌%◌, ◌^◌, ◌≤◌, ◌<◌}
 use mathlib.Core.Path.{◌≡◌, refl, subst}
 use mathlib.Core.Bool.{false}
-use mathlib.Core.List.{List, []}
+use mathlib.Core.List.{List}
 use native.Mathlib.Nat.{le_of_eq, lt_of_lt_of_le}
 use native.Mathlib.Omega.{arith}
 use lib.Dec.{T, eqb, eqb→eq, ltb→lt}
-use borrow.Author.Tests.{eqb-false, lt-ltb, le-ltb}
+use borrow.Author.Tests.{eqb-false, lt-ltb}
 use lib.ListN.{length}
 use lib.Pow.{pow_mono}
 use Rattle.lists.specs.Lists.{◌∈◌, Each}
-use Rattle.lists.proofs.Tests.{and_left, and_right, choose_true, choose_false}
+use Rattle.lists.proofs.Tests.{and_left, and_right, choose_true}
 use Rattle.lists.proofs.Lists.{in_none, each_more, each_from_at}
 use Rattle.masks.specs.Sets.{within}
 use Rattle.masks.proofs.Laws.{within_below}
@@ -44,15 +44,10 @@ pub valid_kept : (image : List ℕ) → Valid image → Kept image
 unfolding check_image outside
 valid_kept image valid = search (passed, not_zero) depth 14
 
--- the rows of a symbol are those of its span; a number that is no symbol has none
-module _ (image : List ℕ) (s : ℕ) where
-  pub rows_of_symbol : s < symbols_of image → rows_of image s ≡ rows_from image (size_of image s / 9) (offset_of image s)
-  unfolding rows_of
-  rows_of_symbol l = choose_true _ _ (lt-ltb _ _ l)
-
-  pub rows_of_none : symbols_of image ≤ s → rows_of image s ≡ []
-  unfolding rows_of
-  rows_of_none l = choose_false _ _ (le-ltb _ _ l)
+-- the rows of a symbol are those of its span
+pub rows_of_symbol : (image : List ℕ) (s : ℕ) → s < symbols_of image → rows_of image s ≡ rows_from image (size_of image s / 9) (offset_of image s)
+unfolding rows_of
+rows_of_symbol image s l = choose_true _ _ (lt-ltb _ _ l)
 
 module _ (image : List ℕ) (valid : Valid image) where
   kept : Kept image

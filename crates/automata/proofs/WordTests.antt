@@ -1,49 +1,38 @@
 -- The word test: what its two loops have found, and the number that each way through it answers. Assumes nothing.
 use Prim.Native.Nat.{ℕ, zero, suc, ◌+◌, ◌-◌, ◌≤◌, ◌<◌}
 use mathlib.Core.Path.{◌≡◌, refl, sym, ap, ◌∙◌}
-use mathlib.Core.Bool.{Bool, true, false, not}
-use mathlib.Core.List.{List}
-use mathlib.Core.Logic.{inl, inr}
+use mathlib.Core.Bool.{Bool, true, false, not, ◌&&◌}
+use mathlib.Core.List.{List, [], ◌∷◌, ◌++◌, append-nil, append_assoc}
 use native.Mathlib.Omega.{arith}
-use borrow.Author.Tests.{le-ltb, lt-ltb, not-true, not-false}
+use borrow.Author.Tests.{not-true, not-false}
 use lib.Dec.{T, ltb, ltb→lt, lt→ltb}
 use lib.ListN.{length, get_or, drop}
 use lib.Seq.{drop-length}
-use Rattle.lists.specs.Tests.{neg}
-use Rattle.lists.specs.Lists.{Each, all}
+use Rattle.std.specs.Prelude.{Ok, Err}
+use Rattle.std.specs.List.{list_all}
+use Rattle.lists.specs.Tests.{◌and◌, neg}
+use Rattle.lists.specs.Lists.{here, Each, all}
 use Rattle.lists.proofs.Tests.{holds, is_true}
-use Rattle.lists.proofs.Lists.{at_in, drop_first, all_fails, all_holds, all_ends, all_each, each_all}
+use Rattle.lists.proofs.Lists.{in_right, at_in, drop_first, all_each, each_all}
 use Rattle.masks.specs.Sets.{subset}
 use Rattle.automata.specs.Image.{Valid, symbols_of, rows_of, check, check_image}
 use Rattle.automata.specs.Automaton.{automaton_of, backward, taken_back}
 use Rattle.automata.specs.WordTest.{one_if, accepts, known, WordOf, test_word, word_test}
-use Rattle.automata.specs.Answers.{head_of, read_with, read_image}
+use Rattle.automata.specs.Refusals.{number_of}
+use Rattle.automata.specs.Answers.{ReadAs, read_image}
+use Rattle.automata.specs.declared.refusal.Refusal.{Refusal}
 use Rattle.automata.specs.declared.image.Head.{Head}
-use Rattle.automata.specs.declared.image.Image.{Image}
-use Rattle.automata.specs.declared.image.Image.TheVariants as Answer
-use Rattle.automata.proofs.Checks.{CheckNumber, check_number}
+use Rattle.automata.proofs.Reading.{read_same, refused_number, refused_high, head_symbols, head_initial, head_finals}
 
--- the loop over the word's symbols, before symbol i
-pub record SymbolsLeft (word : List ℕ) (symbols i : ℕ) : Type 0 where
-  pub bound : i ≤ length word
-  pub rest : known symbols (drop i word) ≡ known symbols word
-
-pub symbols_none : {word : List ℕ} {symbols : ℕ} → SymbolsLeft word symbols 0
-symbols_none = record { bound = omega arith; rest = refl }
-
-module _ {word : List ℕ} {symbols i : ℕ} (left : SymbolsLeft word symbols i) where
-  pub symbol_above : i < length word → symbols ≤ get_or word i 0 → false ≡ known symbols word
-  unfolding known
-  symbol_above l h = sym (all_fails (λ s. ltb s symbols) word i l (le-ltb _ _ h)) ∙ left.rest
-
-  pub symbol_below : i < length word → get_or word i 0 < symbols → SymbolsLeft word symbols (i + 1)
-  unfolding known
-  symbol_below l h =
-      record { bound = omega arith; rest = sym (all_holds (λ s. ltb s symbols) word i l (lt-ltb _ _ h)) ∙ left.rest }
-
-  pub symbols_end : length word ≤ i → true ≡ known symbols word
-  unfolding known
-  symbols_end l = sym (all_ends (λ s. ltb s symbols) word i l) ∙ left.rest
+-- std's test of each item of a list
+pub all_listed : (test : ℕ → Bool) (l : List ℕ) → list_all test l ≡ all test l
+unfolding all ◌and◌
+all_listed test [] = refl
+all_listed test (x ∷ l) = at (test x) (all_listed test l)
+  where
+    at : (b : Bool) → list_all test l ≡ all test l → (b && list_all test l) ≡ (b and all test l)
+    at true e = e
+    at false e = refl
 
 -- a symbol of the word is the automaton's
 pub symbol_known : {image word : List ℕ} {i : ℕ} → WordOf image word → i < length word → get_or word i 0 < symbols_of image
@@ -74,25 +63,34 @@ module _ {image word : List ℕ} {X i case : ℕ} (from : TakenFrom image word X
   pub taken_end : i ≤ 0 → case ≡ taken_back (automaton_of image) word X
   taken_end h = let e : i ≡ 0 = omega arith in from.taken ∙ ap (λ (k : ℕ). taken_back (automaton_of image) (drop k word) X) e
 
--- what the answer of the reader says of the checks
-is_valid : (image : List ℕ) (number : ℕ) (head : Head) → read_with image number ≡ Answer.Valid head → (number ≡ 0) × (head ≡ head_of image)
-unfolding read_with
-is_valid image zero head e = (refl, cc)
-is_valid image (suc number) head e = let z : ◌≡◌ {A = ℕ} 0 1 = cc in absurd (omega arith)
+-- the walk over the word's symbols from the last on, with those of `front` still to go: the case is taken back by the others
+pub record TakenBack (image word : List ℕ) (X : ℕ) (front : List ℕ) (case : ℕ) : Type 0 where
+  pub behind : List ℕ
+  pub parts : word ≡ front ++ behind
+  pub taken : case ≡ taken_back (automaton_of image) behind X
 
-is_refused : (image : List ℕ) (number refused : ℕ) → read_with image number ≡ Answer.Refused refused → (number ≡ refused) × (0 < number)
-unfolding read_with
-is_refused image zero refused e = let z : ◌≡◌ {A = ℕ} 0 1 = cc in absurd (omega arith)
-is_refused image (suc number) refused e = (cc, omega arith)
+pub back_starts : {image : List ℕ} (word : List ℕ) {X : ℕ} → TakenBack image word X word X
+unfolding taken_back
+back_starts word = record { behind = []; parts = sym (append-nil word); taken = refl }
 
-module _ (image : List ℕ) (answer : Image) (read : answer ≡ read_image image) (head : Head) (e : answer ≡ Answer.Valid head) where
-  pub answer_valid : Valid image
-  unfolding read_image
-  answer_valid = (is_valid image (check_image image) head (sym read ∙ e)).0
+module _ {image word : List ℕ} {X : ℕ} {front : List ℕ} {case : ℕ} (back : TakenBack image word X front case) where
+  module _ (rest : List ℕ) (s : ℕ) (last : front ≡ rest ++ s ∷ []) where
+    split : word ≡ rest ++ (s ∷ back.behind)
+    split = back.parts ∙ rw last (append_assoc rest (s ∷ []) back.behind)
 
-  pub answer_head : head ≡ head_of image
-  unfolding read_image
-  answer_head = (is_valid image (check_image image) head (sym read ∙ e)).1
+    pub back_known : WordOf image word → s < symbols_of image
+    back_known known = known.symbols s (rw split (in_right rest (here refl)))
+
+    pub back_goes : (set : ℕ) → set ≡ backward (rows_of image s) case → TakenBack image word X rest set
+    unfolding taken_back
+    back_goes set e = record { behind = s ∷ back.behind; parts = split; taken = e ∙ ap (backward (rows_of image s)) back.taken }
+
+  pub back_ends : length front ≡ 0 → case ≡ taken_back (automaton_of image) word X
+  back_ends e = back.taken ∙ ap (λ (w : List ℕ). taken_back (automaton_of image) w X) (sym (back.parts ∙ none front e))
+    where
+      none : (l : List ℕ) → length l ≡ 0 → l ++ back.behind ≡ back.behind
+      none [] z = refl
+      none (x ∷ l) z = absurd (omega arith)
 
 -- the word test on a valid image, and of a word of its symbols: whether F, taken back by them, contains I
 pub valid_tested : (image word : List ℕ) → Valid image
@@ -107,56 +105,40 @@ word_of_tested {image} {word} known =
     = is_true _ (each_all (λ s. ltb s (symbols_of image)) word (λ s m. lt→ltb s (symbols_of image) (known.symbols s m))) in
     valid_tested image word known.valid ∙ rw below
 
--- no image is refused under 0 or 1
-pub refused_high : (image : List ℕ) (answer : Image) → answer ≡ read_image image → (number : ℕ) → answer ≡ Answer.Refused number → 20 ≤ number
-unfolding read_image
-refused_high image answer read number e = at (is_refused image (check_image image) number (sym read ∙ e)) (check_number image)
+-- the answers of the word test: a refused image has the number of its refusal
+pub test_refused : (bytes word : List ℕ) {refusal : Refusal} → Err refusal ≡ read_image bytes → number_of refusal ≡ word_test bytes word
+unfolding word_test test_word
+test_refused bytes word {refusal} read = at (check_image bytes) (refused_number bytes read)
   where
-    at : (check_image image ≡ number) × (0 < check_image image) → CheckNumber (check_image image) → 20 ≤ number
-    at r (inl z) = absurd (omega (arith, r.1))
-    at r (inr high) = omega (arith, r.0, high.0)
+    at : (checked : ℕ) → number_of refusal ≡ checked → number_of refusal ≡ test_word bytes word checked
+    at zero e = absurd (omega (arith, refused_high bytes read))
+    at (suc checked) e = e
 
--- the answers of the word test
-module _ (image word : List ℕ) (answer : Image) (read : answer ≡ read_image image) where
-  pub test_refused : (number : ℕ) → answer ≡ Answer.Refused number → number ≡ word_test image word
-  unfolding word_test test_word read_image
-  test_refused number e = at (check_image image) (is_refused image (check_image image) number (sym read ∙ e))
-    where
-      at : (checked : ℕ) → (checked ≡ number) × (0 < checked) → number ≡ test_word image word checked
-      at zero h = absurd (omega arith)
-      at (suc checked) h = sym h.0
+-- .. and else its head tells
+module _ {image : List ℕ} (word : List ℕ) {head : Head} (read : ReadAs image head) (below : Bool) (all_below : below ≡ known head.symbols word) where
+  tested : word_test image word ≡ check (neg below) 32 (one_if (accepts (automaton_of image) word))
+  tested = valid_tested image word read.valid ∙ rw (all_below, head_symbols read)
 
-  module _ (head : Head) (e : answer ≡ Answer.Valid head) (below : Bool) (all_below : below ≡ known head.symbols word) where
-    head_symbols : head.symbols ≡ symbols_of image
-    head_symbols = ap (λ (h : Head). h.symbols) (answer_head image answer read head e)
+  pub test_unknown : not below ≡ true → 32 ≡ word_test image word
+  unfolding check neg
+  test_unknown t = sym (tested ∙ rw (not-true below t))
 
-    tested : word_test image word ≡ check (neg below) 32 (one_if (accepts (automaton_of image) word))
-    tested = valid_tested image word (answer_valid image answer read head e) ∙ rw (all_below, head_symbols)
+  module _ (known : not below ≡ false) where
+    word_symbols : Each (λ s. s < symbols_of image) word
+    unfolding known
+    word_symbols s m =
+        let t : T (all (λ s. ltb s head.symbols) word) = holds (sym all_below ∙ not-false below known) in
+        rw (← head_symbols read) (ltb→lt s head.symbols (all_each (λ s. ltb s head.symbols) word t s m))
 
-    pub test_unknown : not below ≡ true → 32 ≡ word_test image word
-    unfolding check neg
-    test_unknown t = sym (tested ∙ rw (not-true below t))
+    pub word_of : WordOf image word
+    word_of = record { valid = read.valid; symbols = word_symbols }
 
-    module _ (known : not below ≡ false) where
-      word_symbols : Each (λ s. s < symbols_of image) word
-      unfolding known
-      word_symbols s m =
-          let t : T (all (λ s. ltb s head.symbols) word) = holds (sym all_below ∙ not-false below known) in
-          rw (← head_symbols) (ltb→lt s head.symbols (all_each (λ s. ltb s head.symbols) word t s m))
+    pub test_accepts : (back : ℕ) (inside : Bool) → back ≡ taken_back (automaton_of image) word head.finals → inside ≡ subset head.initial back
+        → one_if inside ≡ word_test image word
+    unfolding accepts
+    test_accepts back inside taken test =
+        sym (word_of_tested word_of ∙ ap one_if (sym (rw (taken, head_initial read, head_finals read) at test)))
 
-      pub word_of : WordOf image word
-      word_of = record { valid = answer_valid image answer read head e; symbols = word_symbols }
-
-      module _ (back : ℕ) (taken : back ≡ taken_back (automaton_of image) word head.finals) where
-        module _ (inside : Bool) (test : inside ≡ subset head.initial back) where
-          answered : word_test image word ≡ one_if inside
-          unfolding accepts
-          answered = let h = answer_head image answer read head e in word_of_tested word_of ∙ ap one_if (sym (rw (taken, h) at test))
-
-          pub test_accepts : inside ≡ true → 1 ≡ word_test image word
-          unfolding one_if
-          test_accepts t = sym (answered ∙ rw t)
-
-          pub test_rejects : inside ≡ false → 0 ≡ word_test image word
-          unfolding one_if
-          test_rejects t = sym (answered ∙ rw t)
+-- .. of the bytes that were read
+pub test_read : (bytes : List ℕ) {image : List ℕ} (word : List ℕ) (number : ℕ) → Ok image ≡ read_image bytes → number ≡ word_test image word → number ≡ word_test bytes word
+test_read bytes word number read e = rw (read_same bytes read) at e

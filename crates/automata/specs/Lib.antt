@@ -5,4 +5,5 @@ pub mod Walk
 pub mod Acceptance
 pub mod Picks
 pub mod WordTest
+pub mod Refusals
 pub mod Answers

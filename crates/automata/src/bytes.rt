@@ -1,32 +1,33 @@
-// Little-endian numbers of 2, 4 and 8 bytes, each one load.
-ghost use Rattle.std.specs.Prelude.{◌≡◌, ◌+◌, ◌≤◌, ◌<◌, length};
+// Little-endian numbers of 2, 4 and 8 bytes, each one load. std has one function for each width, and no trait over them.
+ghost use Rattle.std.specs.Prelude.{◌≡◌, ◌+◌, ◌≤◌, length};
 ghost use Rattle.automata.specs.Bytes.{little2, little4, little8};
 
-pub(crate) fn wide(byte: u8) -> usize
-    ensures { (result ≡ byte) × (result < 256) }
-{
-    byte as usize
-}
-
-pub(crate) fn read2(bytes: &[u8], at: usize) -> usize
+pub(crate) fn read2(bytes: &[u8], at: usize) -> u16
     requires { at + 2 ≤ length bytes.now }
-    ensures { (result ≡ little2 bytes.now at) × (result < 65536) }
+    ensures { result ≡ little2 bytes.now at }
 {
-    wide(bytes[at]) + 256 * wide(bytes[at + 1])
+    u16::from_le_bytes([bytes[at], bytes[at + 1]])
 }
 
-pub(crate) fn read4(bytes: &[u8], at: usize) -> usize
+pub(crate) fn read4(bytes: &[u8], at: usize) -> u32
     requires { at + 4 ≤ length bytes.now }
-    ensures { (result ≡ little4 bytes.now at) × (result < 4294967296) }
+    ensures { result ≡ little4 bytes.now at }
 {
-    read2(bytes, at) + 65536 * read2(bytes, at + 2)
+    u32::from_le_bytes([bytes[at], bytes[at + 1], bytes[at + 2], bytes[at + 3]])
 }
 
 pub(crate) fn read8(bytes: &[u8], at: usize) -> u64
     requires { at + 8 ≤ length bytes.now }
     ensures { result ≡ little8 bytes.now at }
 {
-    let low = read4(bytes, at) as u64;
-    let high = read4(bytes, at + 4) as u64;
-    low + 4294967296 * high
+    u64::from_le_bytes([
+        bytes[at],
+        bytes[at + 1],
+        bytes[at + 2],
+        bytes[at + 3],
+        bytes[at + 4],
+        bytes[at + 5],
+        bytes[at + 6],
+        bytes[at + 7],
+    ])
 }

@@ -1,13 +1,15 @@
 // Reading an image: the checks 20 to 27 in 01's order, and the head of an image that none refuses.
-ghost use Rattle.std.specs.Prelude.{◌≡◌, ◌+◌, ◌*◌, ◌≤◌, ◌<◌, length};
-ghost use Rattle.automata.specs.Image.{symbols_of, row_count_of, offset_of, size_of, pairs_hold, row_holds, rows_hold, check_image};
+ghost use Rattle.std.specs.Prelude.{◌≡◌, ◌+◌, ◌*◌, ◌≤◌, ◌<◌, List, ℕ, length};
+ghost use Rattle.automata.specs.Image.{Valid, symbols_of, row_count_of, offset_of, size_of, pairs_hold, row_holds, rows_hold, check_image};
 ghost use Rattle.automata.specs.Image.{outside as is_outside};
-ghost use Rattle.automata.specs.Answers.{read_image};
+ghost use Rattle.automata.specs.Answers.{ReadAs, checked_number, read_image};
 
-use crate::bytes::{read2, read4, read8, wide};
+use crate::bytes::{read2, read4, read8};
+use crate::refusal::Refusal;
+use std::marker::Model;
 
 // A symbol's number.
-#[derive(Clone, Copy)]
+#[derive(Clone, Copy, PartialEq, Eq)]
 pub struct Symbol(pub u8);
 
 // What an image says before its rows: n, k, m, I and F.
@@ -20,21 +22,42 @@ pub struct Head {
     pub finals: u64,
 }
 
-// A valid image's head, or the number under which the image is refused.
-#[derive(Clone, Copy)]
-pub enum Image {
-    Valid(Head),
-    Refused(u8),
+// An image that no check refuses: the bytes that are lent, which a contract sees, and what they say before the rows.
+#[derive(Drop)]
+pub struct Image<'a> {
+    bytes: &'a [u8],
+    head: Head,
+}
+
+impl<'a> Model for Image<'a> {
+    ghost Value = { List ℕ };
+
+    ghost view = { λ image. image.bytes.now };
+
+    ghost invariant = { λ image. ReadAs image.bytes.now image.head };
+}
+
+impl<'a> Image<'a> {
+    // What it says before its rows.
+    pub fn head(&self) -> Head
+        ensures { ReadAs self.now result }
+    {
+        self.head
+    }
+
+    // The bytes.
+    pub(crate) fn bytes(&self) -> &'a [u8]
+        ensures { (result.now ≡ self.now) × Valid self.now }
+    {
+        self.bytes
+    }
 }
 
 // Whether the number is 0 or above 64.
 fn outside(number: u8) -> bool
     ensures { result ≡ is_outside number }
 {
-    if number == 0 {
-        return true;
-    }
-    64 < number
+    number == 0 || 64 < number
 }
 
 // Where the rows of the symbol begin, by its pair.
@@ -42,7 +65,8 @@ pub(crate) fn offset_of(image: &[u8], symbol: Symbol) -> usize
     requires { 28 + 8 * symbol.0 ≤ length image.now }
     ensures { (result ≡ offset_of image.now symbol.0) × (result < 4294967296) }
 {
-    read4(image, 20 + 8 * symbol.0 as usize)
+    // as Rust, std has no `usize::from` of 32 bits
+    read4(image, 20 + 8 * usize::from(symbol.0)) as usize
 }
 
 // How many bytes they take, by its pair.
@@ -50,7 +74,7 @@ pub(crate) fn size_of(image: &[u8], symbol: Symbol) -> usize
     requires { 28 + 8 * symbol.0 ≤ length image.now }
     ensures { (result ≡ size_of image.now symbol.0) × (result < 4294967296) }
 {
-    read4(image, 24 + 8 * symbol.0 as usize)
+    read4(image, 24 + 8 * usize::from(symbol.0)) as usize
 }
 
 // Whether each pair keeps the span rule and the last span ends at the image's end.
@@ -59,11 +83,10 @@ fn pairs_hold(image: &[u8]) -> bool
     ensures { result ≡ pairs_hold image.now }
 {
     let symbols = image[1];
-    let mut start = 20 + 8 * wide(symbols);
-    let mut symbol = Symbol(0);
-    while symbol.0 < symbols {
-        let offset = offset_of(image, symbol);
-        let size = size_of(image, symbol);
+    let mut start = 20 + 8 * usize::from(symbols);
+    for s in 0..symbols {
+        let offset = offset_of(image, Symbol(s));
+        let size = size_of(image, Symbol(s));
         if offset != start {
             return false;
         }
@@ -71,7 +94,6 @@ fn pairs_hold(image: &[u8]) -> bool
             return false;
         }
         start = offset + size;
-        symbol = Symbol(symbol.0 + 1);
     }
     start == image.len()
 }
@@ -82,11 +104,8 @@ fn row_holds(image: &[u8], i: usize) -> bool
     ensures { result ≡ row_holds image.now i }
 {
     let states = image[0];
-    let at = 20 + 8 * wide(image[1]) + 9 * i;
-    if states <= image[at] {
-        return false;
-    }
-    masks::within(states, read8(image, at + 1))
+    let at = 20 + 8 * usize::from(image[1]) + 9 * i;
+    image[at] < states && masks::within(states, read8(image, at + 1))
 }
 
 // Whether each of the m rows does.
@@ -94,72 +113,59 @@ fn rows_hold(image: &[u8]) -> bool
     requires { 20 + 8 * symbols_of image.now + 9 * row_count_of image.now ≤ length image.now }
     ensures { result ≡ rows_hold image.now }
 {
-    let rows = read2(image, 2);
-    let mut i: usize = 0;
-    while i < rows {
-        if !row_holds(image, i) {
-            return false;
-        }
-        i += 1;
-    }
-    true
+    let rows = usize::from(read2(image, 2));
+    (0..rows).all(|i| row_holds(image, i))
 }
 
-// 0, or the number of the first check that refuses the image.
-fn check_image(image: &[u8]) -> u8
-    ensures { result ≡ check_image image.now }
+// Nothing, or the first check that refuses the image.
+fn check_image(image: &[u8]) -> Result<(), Refusal>
+    ensures { checked_number result ≡ check_image image.now }
 {
     if image.len() < 20 {
-        return 20;
+        return Err(Refusal::ShortImage);
     }
     let states = image[0];
     if outside(states) {
-        return 21;
+        return Err(Refusal::StateCount);
     }
-    if outside(image[1]) {
-        return 22;
+    let symbols = image[1];
+    if outside(symbols) {
+        return Err(Refusal::SymbolCount);
     }
     let rows = read2(image, 2);
     if 4096 < rows {
-        return 23;
+        return Err(Refusal::RowCount);
     }
-    let symbols = wide(image[1]);
-    if image.len() != 20 + 8 * symbols + 9 * rows {
-        return 24;
+    if image.len() != 20 + 8 * usize::from(symbols) + 9 * usize::from(rows) {
+        return Err(Refusal::ImageLength);
     }
     if !masks::within(states, read8(image, 4)) {
-        return 25;
+        return Err(Refusal::StateSet);
     }
     if !masks::within(states, read8(image, 12)) {
-        return 25;
+        return Err(Refusal::StateSet);
     }
     if !pairs_hold(image) {
-        return 26;
+        return Err(Refusal::Pair);
     }
     if !rows_hold(image) {
-        return 27;
+        return Err(Refusal::Row);
     }
-    0
+    Ok(())
 }
 
-// The head of an image that no check refuses, else the number of the first that does.
-pub fn read_image(image: &[u8]) -> Image
-    ensures { result ≡ read_image image.now }
+// An image that no check refuses, else the first that does.
+#[tactic(auto, using(crate::proofs::Reading::head_in))]
+pub fn read_image<'a>(bytes: &'a [u8]) -> Result<Image<'a>, Refusal>
+    ensures { result ≡ read_image bytes.now }
 {
-    let number = check_image(image);
-    if number != 0 {
-        return Image::Refused(number);
-    }
-    let states = image[0];
-    let symbols = image[1];
-    let rows = read2(image, 2) as u16;
-    let initial = read8(image, 4);
-    let finals = read8(image, 12);
-    Image::Valid(Head {
-        states,
-        symbols,
-        rows,
-        initial,
-        finals,
-    })
+    check_image(bytes)?;
+    let head = Head {
+        states: bytes[0],
+        symbols: bytes[1],
+        rows: read2(bytes, 2),
+        initial: read8(bytes, 4),
+        finals: read8(bytes, 12),
+    };
+    Ok(Image { bytes, head })
 }

@@ -1,4 +1,5 @@
 -- The three changes of the blocker room: a blocker enters, one rises, only those above a level stay. Assumes nothing.
+use Rattle.std.specs.Prelude.{Option, Some, None}
 use Prim.Native.Nat.{ℕ, zero, suc, ◌+◌, ◌-◌, ◌≤◌, ◌<◌}
 use mathlib.Core.Path.{◌≡◌, refl, sym, ap, ap₂, subst, ◌∙◌}
 use mathlib.Core.Bool.{Bool, true, false}
@@ -10,8 +11,8 @@ use borrow.Author.Tests.{leb-true, le-leb, lt-leb, lt-ltb, le-ltb}
 use mir.Syntax.{w64}
 use mir.Val.{Fits}
 use lib.Dec.{leb, ltb}
-use lib.ListN.{length, get_or, length-append}
-use lib.Seq.{append_snoc}
+use lib.ListN.{length, take, get_or, length-append}
+use lib.Seq.{append_snoc, get_or-take}
 use Rattle.lists.specs.Tests.{◌and◌, neg, choose}
 use Rattle.lists.specs.Lists.{keep}
 use Rattle.lists.proofs.Tests.{is_true, choose_true, choose_false}
@@ -19,8 +20,6 @@ use Rattle.masks.specs.Sets.{subset, full}
 use Rattle.masks.proofs.Laws.{below_within, within_full}
 use Rattle.machine.specs.Machine.{Blocker, leaves, staying, risen, frame}
 use Rattle.machine.specs.Lent.{BlockerRoom, EvenRoom, blocker_of, blocker_at, blockers_from, with_table}
-use Rattle.blockers.specs.declared.Entered.{Entered}
-use Rattle.blockers.specs.declared.Entered.TheVariants.{Held, Full}
 use Rattle.blockers.specs.Room.{
   HoldsRoom,
   table_of,
@@ -78,7 +77,7 @@ module _ {Y : Blocker} {held end : ℕ} {room room' : BlockerRoom} (closed : Clo
 -- Y enters: no place is left for it, or it stands behind those that stayed
 module _ {Y : Blocker} {held end : ℕ} {room room' : BlockerRoom} (closed : ClosedUp (blocker_of Y.mask Y.level) 0 0 held end room room')
     (asked : HoldsRoom held room × EvenRoom room) where
-  pub enter_full : length room'.masks ≤ end → Enters held Y room Full room'
+  pub enter_full : length room'.masks ≤ end → Enters held Y room None room'
   unfolding entered_answer entered_table
   enter_full l =
       let shut = close_for Y closed in
@@ -89,11 +88,11 @@ module _ {Y : Blocker} {held end : ℕ} {room room' : BlockerRoom} (closed : Clo
       stay_whole Y table (omega (arith, long.masks, close_count shut, asked.0.read.in_masks, blockers_length room held 0)) in
       let lacks : leb (length (entering Y table)) (length room.masks) ≡ false = lt-leb (length (entering Y table)) (length room.masks) lacking in
       record {
-        answers = sym (choose_false (Held (length (entering Y table))) Full lacks);
+        answers = sym (choose_false (Some (length (entering Y table))) None lacks);
         tables = subst (λ (new : List Blocker). room' ≡ with_table held new room) (all ∙ sym (choose_false (entering Y table) table lacks)) (close_placed shut);
       }
 
-  pub enter_held : {room'' : BlockerRoom} → room'' ≡ put_at Y end room' → end < length room'.masks → Enters held Y room (Held (end + 1)) room''
+  pub enter_held : {room'' : BlockerRoom} → room'' ≡ put_at Y end room' → end < length room'.masks → Enters held Y room (Some (end + 1)) room''
   unfolding entered_answer entered_table entering
   enter_held {room''} put l =
       let shut = close_for Y closed in
@@ -104,25 +103,25 @@ module _ {Y : Blocker} {held end : ℕ} {room room' : BlockerRoom} (closed : Clo
       let fits : leb (length new) (length room.masks) ≡ true =
       le-leb (length new) (length room.masks) (omega (arith, long.masks, entering_length shut)) in
       record {
-        answers = ap Held (sym (entering_length shut)) ∙ sym (choose_true (Held (length new)) Full fits);
+        answers = ap Some (sym (entering_length shut)) ∙ sym (choose_true (Some (length new)) None fits);
         tables = subst (λ (t : List Blocker). room'' ≡ with_table held t room) (sym (choose_true new table fits))
             (placed_put held _ (close_placed shut) Y end put (close_count shut) asked.0 place);
       }
 
 -- What a caller learns from the answer: whether there was room, the new count, and what stands in the tables.
-choice_held : (b : Bool) {n count : ℕ} → choose b (Held n) Full ≡ Held count → (b ≡ true) × (count ≡ n)
+choice_held : (b : Bool) {n count : ℕ} → choose b (Some n) None ≡ Some count → (b ≡ true) × (count ≡ n)
 unfolding choose
 choice_held true e = (refl, cc)
 choice_held false e = let z : ◌≡◌ {A = ℕ} 0 1 = cc in absurd (omega arith)
 
-choice_full : (b : Bool) (n : ℕ) → choose b (Held n) Full ≡ Full → b ≡ false
+choice_full : (b : Bool) (n : ℕ) → choose b (Some n) None ≡ None → b ≡ false
 unfolding choose
 choice_full true n e = let z : ◌≡◌ {A = ℕ} 0 1 = cc in absurd (omega arith)
 choice_full false n e = refl
 
-module _ {held : ℕ} {Y : Blocker} {room : BlockerRoom} {answer : Entered} {room' : BlockerRoom}
+module _ {held : ℕ} {Y : Blocker} {room : BlockerRoom} {answer : Option ℕ} {room' : BlockerRoom}
     (enters : Enters held Y room answer room') where
-  module _ {count : ℕ} (e : answer ≡ Held count) where
+  module _ {count : ℕ} (e : answer ≡ Some count) where
     held_choice : (leb (length (entering Y (table_of held room))) (length room.masks) ≡ true)
         × (count ≡ length (entering Y (table_of held room)))
     unfolding entered_answer
@@ -143,7 +142,7 @@ module _ {held : ℕ} {Y : Blocker} {room : BlockerRoom} {answer : Entered} {roo
         subst (λ (table : List Blocker). room' ≡ with_table held table room)
         (choose_true (entering Y (table_of held room)) (table_of held room) held_room) enters.tables
 
-  module _ (e : answer ≡ Full) where
+  module _ (e : answer ≡ None) where
     pub full_room : leb (length (entering Y (table_of held room))) (length room.masks) ≡ false
     unfolding entered_answer
     full_room =
@@ -239,33 +238,38 @@ module _ {held place : ℕ} {room : BlockerRoom} {held' place' : ℕ} {room' : B
       (subst (λ (table : List Blocker). room' ≡ with_table held table room) (sym (append_snoc first R others)) rises.tables)
 
 -- only those above a level stay
-module _ (j : ℕ) (room : BlockerRoom) (fits : (i : ℕ) → Fits w64 (get_or room.masks i 0)) where
-  in_full : (i : ℕ) → subset (get_or room.masks i 0) 18446744073709551615 ≡ true
+module _ (j held : ℕ) (room : BlockerRoom) (fits : (i : ℕ) → Fits w64 (get_or (take held room.masks) i 0)) where
+  in_full : (i : ℕ) → i < held → subset (get_or room.masks i 0) 18446744073709551615 ≡ true
   unfolding full
-  in_full i =
-      let below : get_or room.masks i 0 < 18446744073709551616 = omega (arith, fits i) in
+  in_full i l =
+      let below : get_or room.masks i 0 < 18446744073709551616 = omega (arith, fits i, get_or-take held room.masks i 0 l) in
       is_true _ (within_full 64 (get_or room.masks i 0) (below_within 64 (get_or room.masks i 0) below))
 
-  above : (i : ℕ) → neg (leaves (blocker_of 18446744073709551615 j) (blocker_at room i)) ≡ ltb j (get_or room.levels i 0)
+  above : (i : ℕ) → i < held → neg (leaves (blocker_of 18446744073709551615 j) (blocker_at room i)) ≡ ltb j (get_or room.levels i 0)
   unfolding leaves ◌and◌ neg
-  above i = at (dec_le (get_or room.levels i 0) j)
+  above i inside = at (dec_le (get_or room.levels i 0) j)
     where
       at : Dec (get_or room.levels i 0 ≤ j) → neg (leaves (blocker_of 18446744073709551615 j) (blocker_at room i)) ≡ ltb j (get_or room.levels i 0)
-      at (yes l) = rw (le-leb (get_or room.levels i 0) j l, in_full i, le-ltb j (get_or room.levels i 0) l)
+      at (yes l) = rw (le-leb (get_or room.levels i 0) j l, in_full i inside, le-ltb j (get_or room.levels i 0) l)
       at (no l) =
           let h : j < get_or room.levels i 0 = omega arith in
           rw (lt-leb (get_or room.levels i 0) j h, lt-ltb j (get_or room.levels i 0) h)
 
-  stay_above : (count at : ℕ) → staying (blocker_of 18446744073709551615 j) (blockers_from room count at) ≡ frame j (blockers_from room count at)
+  stay_above : (count at : ℕ) → at + count ≤ held
+      → staying (blocker_of 18446744073709551615 j) (blockers_from room count at) ≡ frame j (blockers_from room count at)
   unfolding staying frame keep blockers_from
-  stay_above zero at = refl
-  stay_above (suc count) at =
-      ap₂ (λ (b : Bool) (rest : List Blocker). choose b (blocker_at room at ∷ rest) rest) (above at) (stay_above count (suc at))
+  stay_above zero at l = refl
+  stay_above (suc count) at l =
+      ap₂ (λ (b : Bool) (rest : List Blocker). choose b (blocker_at room at ∷ rest) rest) (above at (omega arith)) (stay_above count (suc at) (omega arith))
 
-pub framed : {j held end : ℕ} {room room' : BlockerRoom} → ClosedUp (blocker_of 18446744073709551615 j) 0 0 held end room room'
-    → ((i : ℕ) → Fits w64 (get_or room.masks i 0)) → Frames held j room end room'
-framed {j} {held} {end} {room} {room'} closed fits =
-    let same : staying (blocker_of 18446744073709551615 j) (table_of held room) ≡ frame j (table_of held room) = stay_above j room fits held 0 in
+pub framed : {j held end : ℕ} {room room' : BlockerRoom} {masks : List ℕ} → masks ≡ take held room.masks
+    → ((i : ℕ) → Fits w64 (get_or masks i 0)) → ClosedUp (blocker_of 18446744073709551615 j) 0 0 held end room room'
+    → Frames held j room end room'
+framed {j} {held} {end} {room} {room'} part fits closed =
+    let each : (i : ℕ) → Fits w64 (get_or (take held room.masks) i 0) =
+    λ i. subst (λ (table : List ℕ). Fits w64 (get_or table i 0)) part (fits i) in
+    let same : staying (blocker_of 18446744073709551615 j) (table_of held room) ≡ frame j (table_of held room) =
+    stay_above j held room each held 0 (omega arith) in
     record {
       count = close_count closed ∙ ap length same;
       tables = subst (λ (table : List Blocker). room' ≡ with_table held table room) same (close_placed closed);

@@ -1,16 +1,17 @@
 -- Blockers that leave: the others close up, and the places that became free are cleared. What is shown of one table, whatever field it holds, is shown of
 -- the room. Assumes nothing.
-use Prim.Native.Nat.{ℕ, ◌+◌, ◌-◌, ◌≤◌, ◌<◌, max}
+use Prim.Native.Nat.{ℕ, ◌+◌, ◌-◌, ◌≤◌, ◌<◌}
 use mathlib.Core.Path.{◌≡◌, refl, sym, ap, subst, ◌∙◌}
 use mathlib.Core.Bool.{Bool, true, false}
-use mathlib.Core.List.{List, [], ◌∷◌, ◌++◌, append-nil}
+use mathlib.Core.List.{List, [], ◌∷◌, ◌++◌, append_assoc, append-nil}
 use native.Mathlib.Omega.{arith}
-use lib.ListN.{length, take, get_or, set, replicate, length-append, length-set, length-replicate, replicate-append-replicate}
+use lib.ListN.{length, take, drop, get_or, set, replicate, length-append, length-set, length-replicate}
+use borrow.Rule.Slice.PartMut.{put_mid, mid_len, Post-is}
 use lib.Seq.{append_snoc, length-take-le, set-get_or}
 use Rattle.lists.specs.Tests.{neg, choose}
 use Rattle.lists.specs.Lists.{keep}
 use Rattle.machine.specs.Machine.{Blocker, covers, leaves, staying}
-use Rattle.machine.specs.Lent.{BlockerRoom, blocker_of, blocker_at, blockers_from, column, mask_of, level_of, entered_of, each_table}
+use Rattle.machine.specs.Lent.{BlockerRoom, room_of, blocker_at, blockers_from, column, mask_of, level_of, entered_of, each_table}
 use Rattle.machine.proofs.LentTables.{tables_alike, column_length, column_append}
 use Rattle.blockers.specs.Room.{HoldsRoom, put_at, over, ClosedUp, cleared_between}
 use Rattle.blockers.proofs.Over.{over_behind, over_store_last, over_over, over_nothing}
@@ -198,10 +199,13 @@ module _ {Y : Blocker} {start from to : ℕ} {room : BlockerRoom} {kept i : ℕ}
         (omega (arith, so_far.few, so_far.begins, so_far.behind))))
 
     -- where none has left yet, it stands there already
-    pub close_stands : kept ≡ i → ClosingUp Y start from to room (kept + 1) (i + 1) room'
+    pub close_stands : {room'' : BlockerRoom} → room'' ≡ room' → i ≤ kept → ClosingUp Y start from to room (kept + 1) (i + 1) room''
     unfolding put_at
-    close_stands same = close_stays own
+    close_stands same_room none = close_stays (same_room ∙ own)
       where
+        same : kept ≡ i
+        same = omega (arith, so_far.few, so_far.begins, so_far.behind)
+
         own : room' ≡ put_at (blocker_at room' i) kept room'
         own =
             let stands : (table : List ℕ) → set table kept (get_or table i 0) ≡ table =
@@ -227,70 +231,38 @@ module _ {Y : Blocker} {start from to : ℕ} {room : BlockerRoom} {kept i : ℕ}
             each_table (λ field before. over (take start before ++ column field table ++ replicate (to - kept) 0) before) room) all;
       }
 
--- One table while its places from `from` on are cleared, before the one at i.
-clearing_starts : (from : ℕ) (before : List ℕ) → before ≡ over (take from before ++ replicate (from - from) 0) before
-clearing_starts from before =
-    let none : from - from ≡ 0 = omega arith in
-    over_nothing from before ∙ ap (λ (k : ℕ). over (take from before ++ replicate k 0) before) (sym none)
-
-zeros_more : (from i : ℕ) → from ≤ i → ◌++◌ {A = ℕ} (replicate (i - from) 0) (0 ∷ []) ≡ replicate (i + 1 - from) 0
-zeros_more from i a =
-    let one : i - from + 1 ≡ i + 1 - from = omega arith in
-    replicate-append-replicate (i - from) 1 0 ∙ ap (λ (k : ℕ). replicate k 0) one
-
-one_more_zero : (from i : ℕ) (before : List ℕ) → from ≤ i → i < length before
-    → set (over (take from before ++ replicate (i - from) 0) before) i 0 ≡ over (take from before ++ replicate (i + 1 - from) 0) before
-one_more_zero from i before a l =
-    let front : i ≡ length (take from before ++ replicate (i - from) 0) =
+-- 0 in the places from `from` to `to` of one table
+pub zeros_between : (table zeros : List ℕ) (from to : ℕ) → from ≤ to → to ≤ length table
+    → zeros ≡ replicate (length (take (to - from) (drop from table))) 0
+    → put_mid from (to - from) table zeros ≡ over (take from table ++ replicate (to - from) 0) table
+unfolding over
+zeros_between table zeros from to a l z =
+    let front : length (take from table ++ replicate (to - from) 0) ≡ to =
     omega (
       arith,
-      length-append (take from before) (replicate (i - from) 0),
-      length-take-le from before (omega arith),
-      length-replicate {A = ℕ} (i - from) 0,
+      length-append (take from table) (replicate (to - from) 0),
+      length-take-le from table (omega arith),
+      length-replicate {A = ℕ} (to - from) 0,
     ) in
-    over_store_last (take from before) (replicate (i - from) 0) before i 0 front l
-    ∙ ap (λ (more : List ℕ). over (take from before ++ more) before) (zeros_more from i a)
+    rw (z, mid_len from to table l, front, Post-is from to table a)
+    (sym (append_assoc (take from table) (replicate (to - from) 0) (drop to table)))
 
--- the room while its places from `from` on are cleared, before the one at i
-pub record Clearing (from to i : ℕ) (room room' : BlockerRoom) : Type 0 where
-  pub begins : from ≤ i
-  pub bound : i ≤ max from to
-  pub first : HoldsRoom to room
-  pub long : AsLong room room'
-  pub cleared : room' ≡ each_table (λ field before. over (take from before ++ replicate (i - from) 0) before) room
+-- and of all three
+pub clear_written : (masks levels entered masks' levels' entered' : List ℕ) (from to : ℕ)
+    → masks' ≡ over (take from masks ++ replicate (to - from) 0) masks
+    → levels' ≡ over (take from levels ++ replicate (to - from) 0) levels
+    → entered' ≡ over (take from entered ++ replicate (to - from) 0) entered
+    → room_of masks' levels' entered' ≡ cleared_between from to (room_of masks levels entered)
+unfolding cleared_between
+clear_written masks levels entered masks' levels' entered' from to m l e = rw (m, l, e)
 
-pub clear_starts : {from to : ℕ} {room : BlockerRoom} → HoldsRoom to room → Clearing from to from room room
-clear_starts {from} {to} {room} holds = record {
-  begins = omega arith;
-  bound = omega arith;
-  first = holds;
-  long = long_itself room;
-  cleared = tables_within holds (λ field before. before) (λ field before. over (take from before ++ replicate (from - from) 0) before)
-      (λ field before l. clearing_starts from before);
-}
-
-module _ {from to i : ℕ} {room room' : BlockerRoom} (so_far : Clearing from to i room room') where
-  pub clear_goes : {room'' : BlockerRoom} → i < to → room'' ≡ put_at (blocker_of 0 0) i room' → Clearing from to (i + 1) room room''
-  unfolding put_at
-  clear_goes {room''} l put = record {
-    begins = omega (arith, so_far.begins);
-    bound = omega arith;
-    first = so_far.first;
-    long = long_further so_far.long (put_long _ _ put);
-    cleared = put
-        ∙ ap (λ (r : BlockerRoom). each_table (λ field before. set before i (field (blocker_of 0 0))) r) so_far.cleared
-        ∙ zeros;
-  }
-    where
-      zeros : each_table (λ field before. set (over (take from before ++ replicate (i - from) 0) before) i (field (blocker_of 0 0))) room
-          ≡ each_table (λ field before. over (take from before ++ replicate (i + 1 - from) 0) before) room
-      zeros =
-          tables_within so_far.first (λ field before. set (over (take from before ++ replicate (i - from) 0) before) i 0)
-          (λ field before. over (take from before ++ replicate (i + 1 - from) 0) before)
-          (λ field before h. one_more_zero from i before so_far.begins (omega arith))
-
-  pub clear_ends : to ≤ i → room' ≡ cleared_between from to room
-  unfolding cleared_between
-  clear_ends l =
-      let all : i - from ≡ to - from = omega (arith, so_far.bound) in
-      so_far.cleared ∙ ap (λ (k : ℕ). each_table (λ field before. over (take from before ++ replicate k 0) before) room) all
+-- no place is cleared where none is between
+pub clear_none : (masks levels entered : List ℕ) (from to : ℕ) → to < from
+    → room_of masks levels entered ≡ cleared_between from to (room_of masks levels entered)
+clear_none masks levels entered from to l =
+    clear_written masks levels entered masks levels entered from to (same masks) (same levels) (same entered)
+  where
+    same : (table : List ℕ) → table ≡ over (take from table ++ replicate (to - from) 0) table
+    same table =
+        let none : to - from ≡ 0 = omega arith in
+        over_nothing from table ∙ ap (λ (k : ℕ). over (take from table ++ replicate k 0) table) (sym none)

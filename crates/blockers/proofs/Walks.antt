@@ -1,19 +1,19 @@
 -- Walks over blockers: what remains of one at a place, four tests joined, and the search for the first blocker that covers a case; and the search of a list.
 -- Assumes nothing.
+use Rattle.std.specs.Prelude.{Option, Some, None, is_some}
+use Rattle.std.specs.List.{list_any}
 use Prim.Native.Nat.{ℕ, zero, suc, ◌+◌, ◌-◌, ◌≤◌, ◌<◌, min}
 use mathlib.Core.Path.{◌≡◌, refl, sym, ap, subst, ◌∙◌}
-use mathlib.Core.Bool.{Bool, true, false, ◌||◌}
+use mathlib.Core.Bool.{Bool, true, false, not, ◌||◌}
 use mathlib.Core.List.{List, [], ◌∷◌}
 use native.Mathlib.Nat.{sub-zero}
 use native.Mathlib.Numerals.{add-one}
 use native.Mathlib.Decide.{ℕ_discrete, dec_le}
 use native.Mathlib.Omega.{arith}
-use lib.ListN.{length, take, drop, get_or, drop_of_length-le, take-append-drop}
-use lib.Seq.{drop-drop}
+use lib.ListN.{length}
 use Rattle.lists.specs.Tests.{◌or◌, neg}
 use Rattle.lists.specs.Lists.{any}
 use Rattle.lists.proofs.Tests.{or_neither, or_none}
-use Rattle.lists.proofs.Lists.{any_append, drop_first}
 use Rattle.machine.specs.Machine.{Blocker, covers}
 use Rattle.machine.specs.Lent.{BlockerRoom, blocker_at, blockers_from, unstamped_room, blockers_in}
 use Rattle.machine.specs.Why as Why
@@ -22,7 +22,7 @@ use Rattle.machine.proofs.Reasons.{first_covers, first_misses, covering_any}
 use Rattle.blockers.specs.Answers.{reason_of, Skips}
 use Rattle.blockers.specs.declared.Level.{Level}
 use Rattle.blockers.specs.declared.reasons.Reason.{Reason}
-use Rattle.blockers.specs.declared.reasons.Reason.TheVariants.{ByBlocker, Nothing}
+use Rattle.blockers.specs.declared.reasons.Reason.TheVariants.{ByBlocker, ByStart}
 
 -- the first of the blockers that are left, and the others
 pub next_blocker : (room : BlockerRoom) (held i : ℕ) → i < held
@@ -62,19 +62,6 @@ four_cover masks levels at level case a b c d r ea eb ec ed e =
     let three : at + 3 ≡ suc (suc (suc at)) = omega arith in
     any_of_four (covers level case) _ _ _ _ a b c d r ea eb ec ed e ∙ rw (add-one, two, three)
 
--- of four elements of a list
-pub four_tested : (test : ℕ → Bool) (list : List ℕ) (i : ℕ) (a b c d r : Bool) → i + 4 ≤ length list
-    → a ≡ test (get_or list i 0) → b ≡ test (get_or list (i + 1) 0) → c ≡ test (get_or list (i + 2) 0) → d ≡ test (get_or list (i + 3) 0)
-    → r ≡ a or b or c or d → r ≡ any test (take 4 (drop i list))
-four_tested test list i a b c d r l ea eb ec ed e =
-    let two : i + 1 + 1 ≡ i + 2 = omega arith in
-    let three : i + 2 + 1 ≡ i + 3 = omega arith in
-    let first = drop_first list i (omega arith) in
-    let second = drop_first list (i + 1) (omega arith) in
-    let third = drop_first list (i + 2) (omega arith) in
-    let fourth = drop_first list (i + 3) (omega arith) in
-    any_of_four test _ _ _ _ a b c d r ea eb ec ed e ∙ sym (rw (first, second, two, third, three, fourth))
-
 -- none of some blockers passes a test
 none_passes : (test : Blocker → Bool) (room : BlockerRoom) (count at : ℕ) → any test (blockers_from room count at) ≡ false
     → (i : ℕ) → at ≤ i → i < at + count → test (blocker_at room i) ≡ false
@@ -93,10 +80,6 @@ pub record Skipping (masks levels : List ℕ) (level case count from i : ℕ) : 
   pub all : count ≡ min (length masks) (length levels)
   pub so_far : Skips masks levels level case from i
 
-pub skip_starts : {masks levels : List ℕ} {level case count from : ℕ} → count ≡ min (length masks) (length levels)
-    → from ≤ min (length masks) (length levels) → Skipping masks levels level case count from from
-skip_starts all l = record { all = all; so_far = record { begins = omega arith; few = l; missed = λ i a b. absurd (omega arith) } }
-
 skip_four : {masks levels : List ℕ} {level case from i : ℕ} → Skips masks levels level case from i → i + 4 ≤ min (length masks) (length levels)
     → any (covers level case) (blockers_from (unstamped_room masks levels) 4 i) ≡ false → Skips masks levels level case from (i + 4)
 skip_four {masks} {levels} {level} {case} {from} {i} so_far l none =
@@ -107,9 +90,6 @@ skip_four {masks} {levels} {level} {case} {from} {i} so_far l none =
     by k a b (no h) = so_far.missed k a (omega arith)
 
 module _ {masks levels : List ℕ} {level case count from i : ℕ} (skipping : Skipping masks levels level case count from i) where
-  pub skip_ends : Skips masks levels level case from i
-  skip_ends = skipping.so_far
-
   module _ (eight : 8 ≤ count - i) {a : Bool} (ea : a ≡ any (covers level case) (blockers_from (unstamped_room masks levels) 4 i)) (fa : a ≡ false) where
     pub skip_next : Skips masks levels level case from (i + 4)
     skip_next = skip_four skipping.so_far (omega (arith, skipping.all)) (sym ea ∙ fa)
@@ -122,13 +102,6 @@ module _ {masks levels : List ℕ} {level case count from i : ℕ} (skipping : S
           all = skipping.all;
           so_far = subst (λ (k : ℕ). Skips masks levels level case from k) both (skip_four skip_next (omega (arith, skipping.all)) (sym eb ∙ fb));
         }
-
-pub skip_none : {masks levels : List ℕ} {level case place : ℕ} → place ≤ min (length masks) (length levels) → Skips masks levels level case place place
-skip_none l = record { begins = omega arith; few = l; missed = λ i a b. absurd (omega arith) }
-
-pub skip_none_behind : {masks levels : List ℕ} {level case place : ℕ} → place < min (length masks) (length levels)
-    → Skips masks levels level case (place + 1) (place + 1)
-skip_none_behind l = skip_none (omega arith)
 
 -- The walk over the blockers for the first that covers the case, before place i: what is left of it decides.
 pub record Walked (masks levels : List ℕ) (count level case i : ℕ) : Type 0 where
@@ -168,26 +141,33 @@ pub walk_begins : {masks levels : List ℕ} {count level case r : ℕ} → count
     → Skips masks levels level case 0 r → Walked masks levels count level case r
 walk_begins all skips = walk_skips (walk_starts all) skips
 
+-- there is a reason where one is answered
+pub reason_there : (r : Option Reason) → is_some r ≡ is_reason (reason_of r)
+unfolding is_reason reason_of
+reason_there (Some (ByBlocker place level)) = refl
+reason_there (Some (ByStart q)) = refl
+reason_there None = refl
+
 -- one blocker as the reason, by its test
 module _ (level case place : ℕ) (blocker : Blocker) (b : Bool) (test : b ≡ covers level case blocker) where
-  pub reason_here : (l : Level) → l.0 ≡ blocker.level → b ≡ true → reason_of (ByBlocker place l) ≡ first_covering level case place (blocker ∷ [])
+  pub reason_here : (l : Level) → l.0 ≡ blocker.level → b ≡ true → reason_of (Some (ByBlocker place l)) ≡ first_covering level case place (blocker ∷ [])
   unfolding reason_of
   reason_here l e t = ap (Why.by_blocker place) e ∙ sym (first_covers level case place blocker [] (sym test ∙ t))
 
-  pub reason_none : b ≡ false → reason_of Nothing ≡ first_covering level case place (blocker ∷ [])
+  pub reason_none : b ≡ false → reason_of None ≡ first_covering level case place (blocker ∷ [])
   unfolding reason_of first_covering
   reason_none f = sym (first_misses level case place blocker [] (sym test ∙ f))
 
 -- whether one blocker is a reason tells whether it covers the case
-pub one_told : (level case place : ℕ) (blocker : Blocker) (here : Reason) (told : Bool) → reason_of here ≡ first_covering level case place (blocker ∷ [])
-    → told ≡ is_reason (reason_of here) → covers level case blocker ≡ told
+pub one_told : (level case place : ℕ) (blocker : Blocker) (here : Option Reason) (told : Bool) → reason_of here ≡ first_covering level case place (blocker ∷ [])
+    → told ≡ is_some here → covers level case blocker ≡ told
 unfolding any
 one_told level case place blocker here told e t =
-    sym (t ∙ ap is_reason e ∙ covering_any level case place (blocker ∷ []) ∙ or_none (covers level case blocker))
+    sym (t ∙ reason_there here ∙ ap is_reason e ∙ covering_any level case place (blocker ∷ []) ∙ or_none (covers level case blocker))
 
 module _ {masks levels : List ℕ} {count level case i : ℕ} (so_far : Walked masks levels count level case i) where
-  module _ (here : Reason) (told : Bool) (there : i < count)
-      (one : reason_of here ≡ first_covering level case i (blocker_at (unstamped_room masks levels) i ∷ [])) (tells : told ≡ is_reason (reason_of here)) where
+  module _ (here : Option Reason) (told : Bool) (there : i < count)
+      (one : reason_of here ≡ first_covering level case i (blocker_at (unstamped_room masks levels) i ∷ [])) (tells : told ≡ is_some here) where
     next : first_covering level case i (blocker_at (unstamped_room masks levels) i ∷ blockers_from (unstamped_room masks levels) (count - (i + 1)) (i + 1))
         ≡ first_covering level case 0 (blockers_in masks levels)
     next = ap (first_covering level case i) (sym (next_blocker (unstamped_room masks levels) count i there)) ∙ so_far.left
@@ -205,60 +185,24 @@ module _ {masks levels : List ℕ} {count level case i : ℕ} (so_far : Walked m
           ∙ sym (first_misses level case i _ _ (one_told level case i _ here told one tells ∙ f)) ∙ next;
     }
 
-  pub walk_ends : count ≤ i → reason_of Nothing ≡ first_covering level case 0 (blockers_in masks levels)
+  pub walk_ends : count ≤ i → reason_of None ≡ first_covering level case 0 (blockers_in masks levels)
   unfolding reason_of first_covering
   walk_ends l = ap (first_covering level case i) (sym (no_blocker (unstamped_room masks levels) count i l)) ∙ so_far.left
 
--- The search of a list with a test, from a place on and before place i: what is left of it decides.
-pub record Looked (test : ℕ → Bool) (list : List ℕ) (from i : ℕ) : Type 0 where
-  pub left : any test (drop i list) ≡ any test (drop from list)
+-- the search of a list with a test
+searched : {A : Type 0} (test : A → Bool) (list : List A) → list_any test list ≡ any test list
+unfolding any ◌or◌
+searched test [] = refl
+searched test (x ∷ list) = ap (λ (later : Bool). test x || later) (searched test list) ∙ joined (test x) (any test list)
+  where
+    joined : (a b : Bool) → a || b ≡ a or b
+    joined true b = refl
+    joined false b = refl
 
-pub look_starts : {test : ℕ → Bool} {list : List ℕ} {from : ℕ} → Looked test list from from
-look_starts = record { left = refl }
-
-module _ {test : ℕ → Bool} {list : List ℕ} {from i : ℕ} (so_far : Looked test list from i) where
-  pub look_finds : (b : Bool) → i < length list → b ≡ test (get_or list i 0) → b ≡ true → false ≡ neg (any test (drop from list))
-  unfolding any ◌or◌ neg
-  look_finds b l e t =
-      let here : test (get_or list i 0) ≡ true = sym e ∙ t in
-      let found : any test (drop from list) ≡ true = sym so_far.left ∙ rw (drop_first list i l, here) in
-      sym (ap neg found)
-
-  pub look_goes : (b : Bool) → i < length list → b ≡ test (get_or list i 0) → b ≡ false → Looked test list from (i + 1)
-  unfolding any ◌or◌
-  look_goes b l e t =
-      let other : test (get_or list i 0) ≡ false = sym e ∙ t in
-      record { left = sym (rw (drop_first list i l, other)) ∙ so_far.left }
-
-  pub look_ends : length list ≤ i → true ≡ neg (any test (drop from list))
-  unfolding any neg
-  look_ends l =
-      let none : any test (drop from list) ≡ false = sym so_far.left ∙ rw (drop_of_length-le list l) in
-      sym (ap neg none)
-
--- the search of a whole list, four elements at a time
-pub record FoursLooked (test : ℕ → Bool) (list : List ℕ) (i : ℕ) : Type 0 where
-  pub few : i ≤ length list
-  pub looked : Looked test list 0 i
-
-pub fours_start : {test : ℕ → Bool} {list : List ℕ} → FoursLooked test list 0
-fours_start = record { few = omega arith; looked = look_starts }
-
-module _ {test : ℕ → Bool} {list : List ℕ} {i : ℕ} (so_far : FoursLooked test list i) where
-  parts : any test (take 4 (drop i list)) or any test (drop (i + 4) list) ≡ any test list
-  parts =
-      ap (λ (rest : List ℕ). any test (take 4 (drop i list)) or any test rest) (sym (drop-drop 4 i list))
-      ∙ sym (any_append test (take 4 (drop i list)) (drop 4 (drop i list))) ∙ ap (any test) (take-append-drop 4 (drop i list)) ∙ so_far.looked.left
-
-  pub fours_find : (b : Bool) → b ≡ any test (take 4 (drop i list)) → b ≡ true → false ≡ neg (any test list)
-  unfolding ◌or◌ neg
-  fours_find b e t =
-      let found : any test list ≡ true = sym parts ∙ rw (sym e ∙ t) in
-      sym (ap neg found)
-
-  pub fours_go : (b : Bool) → 4 ≤ length list - i → b ≡ any test (take 4 (drop i list)) → b ≡ false → FoursLooked test list (i + 4)
-  unfolding ◌or◌
-  fours_go b l e f = record { few = omega arith; looked = record { left = sym (rw (sym e ∙ f)) ∙ parts } }
-
-  pub fours_rest : (r : Bool) → r ≡ neg (any test (drop i list)) → r ≡ neg (any test list)
-  fours_rest r e = e ∙ ap neg so_far.looked.left
+pub none_found : (test : ℕ → Bool) (list : List ℕ) (found : Bool) → found ≡ list_any test list → not found ≡ neg (any test list)
+unfolding neg
+none_found test list found e = at found ∙ ap neg (e ∙ searched test list)
+  where
+    at : (b : Bool) → not b ≡ neg b
+    at true = refl
+    at false = refl

@@ -1,4 +1,5 @@
 -- Why a case is blocked, by the level: at 0 it is a question of I, above it one of the blockers. And whether it is, by the reason. Assumes nothing.
+use Rattle.std.specs.Prelude.{Option, Some, None, is_some}
 use Prim.Native.Nat.{ℕ, zero, suc}
 use mathlib.Core.Path.{◌≡◌, refl, sym, ap, ◌∙◌}
 use mathlib.Core.Bool.{Bool, true, false}
@@ -13,24 +14,22 @@ use Rattle.machine.specs.Machine.{Blocker, blocked}
 use Rattle.machine.specs.Why.{first_covering, absent_reason, why, is_reason}
 use Rattle.machine.proofs.Reasons.{blocked_by_reason}
 use Rattle.blockers.specs.Answers.{reason_of}
+use Rattle.blockers.proofs.Walks.{reason_there}
 use Rattle.blockers.specs.declared.reasons.Reason.{Reason}
-use Rattle.blockers.specs.declared.reasons.Reason.TheVariants.{ByStart, Nothing}
+use Rattle.blockers.specs.declared.reasons.Reason.TheVariants.{ByStart}
 
 -- the lowest initial state that the case lacks, by the test whether the case contains I
 module _ (initial case : ℕ) (contains : Bool) (test : contains ≡ subset initial case) where
-  pub start_inside : contains ≡ true → reason_of Nothing ≡ absent_reason (lowest_absent initial case)
+  pub start_inside : contains ≡ true → reason_of None ≡ absent_reason (lowest_absent initial case)
   unfolding reason_of absent_reason
   start_inside t = sym (ap absent_reason (lowest_none initial case (sym test ∙ t)))
 
-  pub start_lacking : contains ≡ false → subset initial case ≡ false
-  start_lacking f = sym test ∙ f
-
 pub start_absent : (initial case : ℕ) (q : State) → lowest_absent initial case ≡ some q.0
-    → reason_of (ByStart q) ≡ absent_reason (lowest_absent initial case)
+    → reason_of (Some (ByStart q)) ≡ absent_reason (lowest_absent initial case)
 unfolding reason_of absent_reason
 start_absent initial case q e = sym (ap absent_reason e)
 
-module _ (initial : ℕ) (table : List Blocker) (level case : ℕ) (bottom : Bool) (at_bottom : bottom ≡ eqb level 0) (r : Reason) where
+module _ (initial : ℕ) (table : List Blocker) (level case : ℕ) (bottom : Bool) (at_bottom : bottom ≡ eqb level 0) (r : Option Reason) where
   pub why_bottom : bottom ≡ true → reason_of r ≡ absent_reason (lowest_absent initial case) → reason_of r ≡ why initial table level case
   unfolding why
   why_bottom t e = e ∙ sym (rw (eqb-true level 0 (sym at_bottom ∙ t)))
@@ -43,7 +42,7 @@ module _ (initial : ℕ) (table : List Blocker) (level case : ℕ) (bottom : Boo
       above zero n = absurd (n refl)
       above (suc i) n = refl
 
--- a case is blocked exactly if there is a reason
-pub blocked_told : (initial : ℕ) (table : List Blocker) (level case : ℕ) (r : Reason) (told : Bool)
-    → reason_of r ≡ why initial table level case → told ≡ is_reason (reason_of r) → told ≡ blocked initial table level case
-blocked_told initial table level case r told e t = t ∙ ap is_reason e ∙ blocked_by_reason initial table level case
+-- so a case is blocked exactly if one is
+pub blocked_told : (initial : ℕ) (table : List Blocker) (level case : ℕ) (r : Option Reason) (told : Bool)
+    → reason_of r ≡ why initial table level case → told ≡ is_some r → told ≡ blocked initial table level case
+blocked_told initial table level case r told e t = t ∙ reason_there r ∙ ap is_reason e ∙ blocked_by_reason initial table level case

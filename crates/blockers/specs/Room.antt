@@ -1,10 +1,8 @@
 -- The blocker room as three lent tables: what stays when a blocker enters or rises, and what the tables then hold. Assumes nothing: these are definitions.
-use Rattle.std.specs.Prelude.{ℕ, ◌+◌, ◌-◌, ◌≤◌, ◌<◌, ◌≡◌, List, [], ◌∷◌, ◌++◌, leb, length, take, drop, set, replicate}
+use Rattle.std.specs.Prelude.{ℕ, ◌+◌, ◌-◌, ◌≤◌, ◌<◌, ◌≡◌, List, [], ◌∷◌, ◌++◌, leb, length, take, drop, set, replicate, Option, Some, None}
 use Rattle.lists.specs.Tests.{choose}
 use Rattle.machine.specs.Machine.{Blocker, staying, risen, frame}
 use Rattle.machine.specs.Lent.{BlockerRoom, blocker_at, blockers_from, column, each_table, with_table}
-use Rattle.blockers.specs.declared.Entered.{Entered}
-use Rattle.blockers.specs.declared.Entered.TheVariants.{Held, Full}
 
 -- the first `held` places of masks and levels are there
 pub record Holds (held : ℕ) (masks levels : List ℕ) : Type 0 where
@@ -46,14 +44,14 @@ unfoldable pub entering : Blocker → List Blocker → List Blocker
 entering Y table = staying Y table ++ Y ∷ []
 
 -- "Room is judged after the leaving": the answer, and the blockers in use, where a table that was `old` is to become `new`
-unfoldable pub entered_answer : ℕ → List Blocker → Entered
-entered_answer places new = choose (leb (length new) places) (Held (length new)) Full
+unfoldable pub entered_answer : ℕ → List Blocker → Option ℕ
+entered_answer places new = choose (leb (length new) places) (Some (length new)) None
 
 unfoldable pub entered_table : ℕ → List Blocker → List Blocker → List Blocker
 entered_table places new old = choose (leb (length new) places) new old
 
 -- what comes of Y that is to enter
-pub record Enters (held : ℕ) (Y : Blocker) (room : BlockerRoom) (answer : Entered) (room' : BlockerRoom) : Type 0 where
+pub record Enters (held : ℕ) (Y : Blocker) (room : BlockerRoom) (answer : Option ℕ) (room' : BlockerRoom) : Type 0 where
   pub answers : answer ≡ entered_answer (length room.masks) (entering Y (table_of held room))
   pub tables : room' ≡ with_table held (entered_table (length room.masks) (entering Y (table_of held room)) (table_of held room)) room
 

@@ -7,7 +7,14 @@ use native.Mathlib.Decide.{ℕ_discrete, dec_le}
 use native.Mathlib.Omega.{arith}
 use lib.ListN.{length, get_or, set, replicate}
 use lib.Seq.{get_or-set_same, get_or-set_other}
-use Rattle.chains.specs.Chained.{Chained}
+use Rattle.std.proofs.Common.{Option, Some, None, SomeIff}
+use Rattle.chains.specs.Chained.{told_number, Chained}
+
+-- the number that stands with 1 added
+pub told_one_less : (result : Option ℕ) (stands number : ℕ) → SomeIff result (1 ≤ stands) (stands - 1) → stands ≡ number → result ≡ told_number number
+unfolding told_number
+told_one_less result zero number some e = rw (sym e) (grind arith)
+told_one_less result (suc stands) number some e = rw (sym e) (grind arith)
 
 -- no numbers, and keys that tell none
 zero_at : (size key : ℕ) → get_or (replicate {A = ℕ} size 0) key 0 ≡ 0
@@ -98,37 +105,63 @@ module _ {key : ℕ → ℕ} {count : ℕ} {lasts links : List ℕ} (chained : C
   pub one_more : Chained key (count + 1) lasts' links'
   one_more = record { tells = tells'; last = last'; links_to = links_to'; nearest = nearest' }
 
--- the walk along the chain of a key, before the number that is told: all numbers behind it that have the key were met
+-- A walk along the chain of a key, before the number that is told, if one is: all numbers from `behind` on that have the key were met.
+unfoldable pub behind : Option ℕ → ℕ
+behind None = 0
+behind (Some number) = suc number
+
+pub behind_some : (number : ℕ) → behind (Some number) ≡ suc number
+unfolding behind
+behind_some number = refl
+
+pub behind_none : behind None ≡ 0
+unfolding behind
+behind_none = refl
+
+behind_told : (stands : ℕ) → behind (told_number stands) ≡ stands
+unfolding behind told_number
+behind_told zero = refl
+behind_told (suc number) = refl
+
+behind_at : (told : Option ℕ) (stands : ℕ) → told ≡ told_number stands → behind told ≡ stands
+behind_at told stands is = ap behind is ∙ behind_told stands
+
+some_stands : (stands : ℕ) (told : Option ℕ) → told ≡ told_number stands → (p : ℕ) → told ≡ Some p → stands ≡ suc p
+some_stands stands told is p e = sym (behind_at told stands is) ∙ ap behind e ∙ behind_some p
+
 module _ {key : ℕ → ℕ} {count : ℕ} {lasts links : List ℕ} (chained : Chained key count lasts links) where
-  pub first_told : (k number : ℕ) → number ≡ get_or lasts k 0 → (p : ℕ) → number ≡ suc p → (p < count) × (key p ≡ k)
-  first_told k number is p e = chained.tells k p (sym is ∙ e)
+  module _ (k : ℕ) (told : Option ℕ) (is : told ≡ told_number (get_or lasts k 0)) where
+    pub first_told : (p : ℕ) → told ≡ Some p → (p < count) × (key p ≡ k)
+    first_told p e = chained.tells k p (some_stands (get_or lasts k 0) told is p e)
 
-  pub none_behind : (k number : ℕ) → number ≡ get_or lasts k 0 → (p : ℕ) → p < count → key p ≡ k → number ≤ p → ⊥
-  none_behind k number is p l e h = omega (arith, chained.last p l, ap (λ (x : ℕ). get_or lasts x 0) e, is)
+    pub none_behind : (p : ℕ) → p < count → key p ≡ k → behind told ≤ p → ⊥
+    none_behind p l e h =
+        omega (arith, chained.last p l, ap (λ (x : ℕ). get_or lasts x 0) e, behind_at told (get_or lasts k 0) is)
 
-  module _ {k number : ℕ} (told : (p : ℕ) → number ≡ suc p → (p < count) × (key p ≡ k)) (some : number ≡ 0 → ⊥) where
-    pub told_one : (number - 1 < count) × (key (number - 1) ≡ k)
-    told_one = told (number - 1) (omega arith)
+  module _ {k number : ℕ} (met : (number < count) × (key number ≡ k)) (told : Option ℕ) (is : told ≡ told_number (get_or links number 0)) where
+    stands : behind told ≡ get_or links number 0
+    stands = behind_at told (get_or links number 0) is
 
-    module _ (next : ℕ) (is : next ≡ get_or links (number - 1) 0) where
-      pub next_nearer : next < number
-      next_nearer = at next refl
-        where
-          at : (n : ℕ) → next ≡ n → next < number
-          at zero e = omega arith
-          at (suc o) e = omega (arith, (chained.links_to (number - 1) o told_one.0 (sym is ∙ e)).0)
+    earlier : (p : ℕ) → told ≡ Some p → (p < number) × (key p ≡ key number)
+    earlier p e = chained.links_to number p met.0 (some_stands (get_or links number 0) told is p e)
 
-      pub next_told : (p : ℕ) → next ≡ suc p → (p < count) × (key p ≡ k)
-      next_told p e =
-          let link = chained.links_to (number - 1) p told_one.0 (sym is ∙ e) in
-          (omega (arith, link.0, told_one.0), link.1 ∙ told_one.1)
+    pub next_told : (p : ℕ) → told ≡ Some p → (p < count) × (key p ≡ k)
+    next_told p e = let link = earlier p e in (omega (arith, link.0, met.0), link.1 ∙ met.1)
 
-      -- what is behind the next one and has the key is this one, or behind it
-      pub none_between : (p : ℕ) → p < count → key p ≡ k → next ≤ p → (p ≡ number - 1) ⊎ (number ≤ p)
-      none_between p l e h = at (ℕ_discrete p (number - 1)) (dec_le number p)
-        where
-          at : Dec (p ≡ number - 1) → Dec (number ≤ p) → (p ≡ number - 1) ⊎ (number ≤ p)
-          at (yes s) q = inl s
-          at (no n) (yes q) = inr q
-          at (no n) (no q) =
-              let nearest = chained.nearest (number - 1) p told_one.0 (omega arith) (e ∙ sym told_one.1) in absurd (omega (arith, is))
+    pub next_nearer : behind told < suc number
+    unfolding behind
+    next_nearer = at told refl
+      where
+        at : (next : Option ℕ) → told ≡ next → behind told < suc number
+        at None e = rw e (omega arith)
+        at (Some p) e = rw e (omega (arith, (earlier p e).0))
+
+    -- what is behind the next one and has the key is this one, or behind it
+    pub none_between : (p : ℕ) → p < count → key p ≡ k → behind told ≤ p → (p ≡ number) ⊎ (suc number ≤ p)
+    none_between p l e h = at (ℕ_discrete p number) (dec_le (suc number) p)
+      where
+        at : Dec (p ≡ number) → Dec (suc number ≤ p) → (p ≡ number) ⊎ (suc number ≤ p)
+        at (yes s) q = inl s
+        at (no n) (yes q) = inr q
+        at (no n) (no q) =
+            let nearest = chained.nearest number p met.0 (omega arith) (e ∙ sym met.1) in absurd (omega (arith, stands))

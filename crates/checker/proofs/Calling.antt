@@ -1,138 +1,121 @@
--- Begin, step and run for every input: what a refusal leaves, and what the start and a step make. Assumes nothing.
+-- Begin, step and run for every input: which check refuses, what a refusal leaves, and what the start and a step make. Assumes nothing.
 use Prim.Native.Nat.{ℕ, zero, suc, ◌≤◌}
-use mathlib.Core.Path.{◌≡◌, refl, sym, ap, subst, ◌∙◌}
-use mathlib.Core.Bool.{Bool, true, false}
+use mathlib.Core.Path.{◌≡◌, refl, sym, ap, ap₂, ◌∙◌}
 use mathlib.Core.List.{List, [], ◌∷◌}
 use native.Mathlib.Omega.{arith}
-use lib.ListN.{length}
-use Rattle.automata.specs.Image.{check}
-use Rattle.automata.specs.Answers.{ReadAs, read_image}
-use Rattle.automata.specs.declared.image.Head.{Head}
-use Rattle.automata.specs.declared.image.Image.{Image}
-use Rattle.automata.specs.declared.image.Image.TheVariants as Answer
+use Rattle.std.specs.Prelude.{Result, Ok, Err}
+use Rattle.automata.specs.Image.{initial_of, final_of, check}
+use Rattle.automata.specs.Refusals.{number_of}
+use Rattle.automata.specs.declared.refusal.Refusal.{Refusal}
+use Rattle.automata.specs.Answers.{read_image}
+use Rattle.automata.proofs.Chained.{test_failed}
+use Rattle.automata.proofs.Reading.{read_valid, refused_number}
 use Rattle.machine.specs.Machine.{start}
-use Rattle.machine.specs.Lent.{BlockerRoom, WordRoom, lent_of, zeroed}
-use Rattle.machine.specs.Runs.{Terms, RunRecord, given_of, record_of, alone_record, check_terms, check_run, run_with, run_of}
-use Rattle.machine.specs.Records.{answering, broken, begin_with, begin_of, check_record, check_step, step_with, step_of}
-use Rattle.machine.specs.Promises.{Unbroken}
-use Rattle.machine.proofs.AnyRecord.{unbroken_means}
-use Rattle.checker.specs.declared.record.Run.{Run}
+use Rattle.machine.specs.Lent.{Lent, zeroed}
+use Rattle.machine.specs.Runs.{Terms, RunRecord, Stage, given_of, rooms_of, record_of, alone, check_terms, check_run, run_with, run_of}
+use Rattle.machine.specs.Records.{Called, answering, broken, working_step, begin_with, begin_of, check_record, check_step, step_of}
+use Rattle.machine.proofs.AnyRecord.{run_first, unbroken_means, stepped, stepped_refused, stepped_finished, stepped_works}
+use Rattle.machine.proofs.RunsKept.{checked}
+use Rattle.machine.proofs.StepsKept.{begin_promises}
 use Rattle.checker.specs.declared.record.Record.{Record}
-use Rattle.checker.specs.Stage.{record_in, stage, went_on, Ready}
-use Rattle.checker.specs.Calls.{record_as, stage_as, called_as, Checked}
-use Rattle.checker.proofs.Checking.{RefusedUnder, image_refuses, terms_refuse, checked_is, rooms_checked}
+use Rattle.checker.specs.declared.record.Run.{Run}
+use Rattle.checker.specs.Stage.{record_left, Ready}
+use Rattle.checker.specs.Calls.{record_as, record_stepped, number_stepped}
+use Rattle.checker.proofs.Checking.{some_number}
 
--- begin and run, by their checks
-module _ (image : List ℕ) (room : BlockerRoom) (word : WordRoom) (terms : Terms) where
-  -- a begin gives its record's answer
-  begin_answers : answering (begin_of image (lent_of room word) terms).left ≡ begin_of image (lent_of room word) terms
+-- the image's number is the first
+image_first : (lent : Lent) (terms : Terms) (number : ℕ) → (number ≡ 0 → ⊥) → check_terms lent terms.hints terms.edition terms.way number ≡ number
+unfolding check_terms
+image_first lent terms zero n = absurd (n refl)
+image_first lent terms (suc number) n = refl
+
+refused_run : (bytes : List ℕ) (lent : Lent) (terms : Terms) (number : ℕ) → (number ≡ 0 → ⊥) → alone lent number ≡ run_with bytes lent terms number
+unfolding run_with
+refused_run bytes lent terms zero n = absurd (n refl)
+refused_run bytes lent terms (suc number) n = refl
+
+-- what a run's checks answer, by the reader and the checks after it
+module _ (bytes : List ℕ) (lent : Lent) (terms : Terms) where
+  pub image_refuses : {refusal : Refusal} → Err refusal ≡ read_image bytes → check_run bytes lent terms ≡ number_of refusal
+  unfolding check_run
+  image_refuses {refusal} read =
+      ap (check_terms lent terms.hints terms.edition terms.way) (sym (refused_number bytes read)) ∙ image_first lent terms (number_of refusal) (some_number refusal)
+
+  pub image_passed : {image : List ℕ} {number : ℕ} → Ok image ≡ read_image bytes → number ≡ check_terms lent terms.hints terms.edition terms.way 0
+      → check_run bytes lent terms ≡ number
+  unfolding check_run
+  image_passed read number = ap (check_terms lent terms.hints terms.edition terms.way) (read_valid bytes read) ∙ sym number
+
+  -- a refusal leaves the tables, and its number alone
+  module _ (refusal : Refusal) (number : check_run bytes lent terms ≡ number_of refusal) {answer : Result Run Refusal} (is : answer ≡ Err refusal) where
+    pub begin_refuses : answering (record { tables = lent; run = record_left answer }) ≡ begin_of bytes lent terms
+    begin_refuses =
+        ap (λ (a : Result Run Refusal). answering (record { tables = lent; run = record_left a })) is
+        ∙ ap (λ (number : ℕ). answering (alone lent number)) (sym number)
+        ∙ sym ((begin_promises bytes lent terms).refuses (λ none. some_number refusal (sym number ∙ none)))
+
+    pub run_refuses : record { tables = lent; run = record_left answer } ≡ run_of bytes lent terms
+    unfolding run_of
+    run_refuses =
+        ap (λ (a : Result Run Refusal). record { tables = lent; run = record_left a }) is
+        ∙ refused_run bytes lent terms (number_of refusal) (some_number refusal)
+        ∙ ap (run_with bytes lent terms) (sym number)
+
+  -- the start, in tables that hold 0
+  pub begin_goes : check_run bytes lent terms ≡ 0 → {tables : Lent} → tables ≡ zeroed lent → (run : RunRecord)
+      → run ≡ record_of (start (initial_of bytes) (final_of bytes ∷ []) terms.edition)
+      → answering (record { tables = tables; run = run }) ≡ begin_of bytes lent terms
   unfolding begin_of begin_with
-  begin_answers = at (check_run image (lent_of room word) terms)
-    where
-      at : (number : ℕ) → answering (begin_with image (lent_of room word) terms.edition number).left
-          ≡ begin_with image (lent_of room word) terms.edition number
-      at zero = refl
-      at (suc number) = refl
+  begin_goes none cleared run starts = rw (none, cleared, starts)
 
-  refused_begin : (number : ℕ) (run : Run) → RefusedUnder image room word terms number → record_in run ≡ alone_record number
-      → stage room word run ≡ (begin_of image (lent_of room word) terms).left
-  unfolding begin_of begin_with
-  refused_begin zero run refuses q = absurd (refuses.some_number refl)
-  refused_begin (suc number) run refuses q = rw (q, refuses.checks)
+-- what a step's checks answer
+module _ (bytes : List ℕ) (terms : Terms) (at : Stage) where
+  pub run_refuses_step : (refusal : Refusal) → check_run bytes at.tables terms ≡ number_of refusal → check_step bytes terms at ≡ number_of refusal
+  unfolding check_step
+  run_refuses_step refusal number = ap (check_record at) number ∙ run_first at (number_of refusal) (some_number refusal)
 
-  pub begin_is : (run : Run) (r : Record) {room' : BlockerRoom} {word' : WordRoom}
-      → stage room' word' run ≡ (begin_of image (lent_of room word) terms).left → record_as r ≡ record_in run
-      → answering (stage_as room' word' r) ≡ begin_of image (lent_of room word) terms
-  begin_is run r {room'} {word'} begins same =
-      ap (λ (x : RunRecord). answering (record { tables = lent_of room' word'; run = x })) same ∙ ap answering begins ∙ begin_answers
+  pub record_checked : check_run bytes at.tables terms ≡ 0 → {number : ℕ} → number ≡ check (broken (rooms_of at.tables) at.run) 33 0
+      → check_step bytes terms at ≡ number
+  unfolding check_step check_record
+  record_checked none number = ap (check_record at) none ∙ sym number
 
-  refused_run : (number : ℕ) (run : Run) → RefusedUnder image room word terms number → record_in run ≡ alone_record number
-      → stage room word run ≡ run_of image (lent_of room word) terms
-  unfolding run_of run_with
-  refused_run zero run refuses q = absurd (refuses.some_number refl)
-  refused_run (suc number) run refuses q = rw (q, refuses.checks)
+  pub step_refuses : (refusal : Refusal) → check_step bytes terms at ≡ number_of refusal → (before : Record) → at.run ≡ record_as before
+      → {answer : Result Run Refusal} → answer ≡ Err refusal
+      → record { number = number_stepped answer; left = record { tables = at.tables; run = record_stepped before answer } } ≡ step_of bytes terms at
+  step_refuses refusal number before same is =
+      ap (λ (a : Result Run Refusal). record { number = number_stepped a; left = record { tables = at.tables; run = record_stepped before a } }) is
+      ∙ ap (λ (run : RunRecord). record { number = number_of refusal; left = record { tables = at.tables; run = run } }) (sym same)
+      ∙ ap (λ (n : ℕ). record { number = n; left = at }) (sym number)
+      ∙ sym (stepped_refused (stepped bytes terms at) (λ none. some_number refusal (sym number ∙ none)))
 
-  -- the image is refused
-  module _ (answer : Image) (read : answer ≡ read_image image) (number : ℕ) (e : answer ≡ Answer.Refused number) (run : Run)
-      (is : record_in run ≡ alone_record number) where
-    pub begin_refuses_image : (r : Record) → record_as r ≡ record_in run
-        → answering (stage_as room word r) ≡ begin_of image (lent_of room word) terms
-    begin_refuses_image r same = begin_is run r (refused_begin number run (image_refuses image room word terms read e) is) same
+  module _ (none : check_step bytes terms at ≡ 0) where
+    pub step_goes : {later : Stage} → at.run.answer ≡ 6 → later ≡ working_step bytes (given_of bytes terms) at → answering later ≡ step_of bytes terms at
+    unfolding working_step
+    step_goes six made = ap answering made ∙ sym (stepped_works (stepped bytes terms at) none six)
 
-    pub run_refuses_image : stage room word run ≡ run_of image (lent_of room word) terms
-    run_refuses_image = refused_run number run (image_refuses image room word terms read e) is
+    pub step_stays : at.run.answer ≤ 6 → (at.run.answer ≡ 6 → ⊥) → answering at ≡ step_of bytes terms at
+    step_stays low not = sym (stepped_finished (stepped bytes terms at) none (omega (arith, low, not)))
 
-  module _ {head : Head} (read : ReadAs image head) (number : ℕ)
-      (passed : number ≡ check_terms (lent_of room word) terms.hints terms.edition terms.way 0) where
-    pub begin_refuses_terms : (run : Run) → (number ≡ 0 → ⊥) → record_in run ≡ alone_record number
-        → stage room word run ≡ (begin_of image (lent_of room word) terms).left
-    begin_refuses_terms run n q = refused_begin number run (terms_refuse image room word terms read number passed n) q
+-- what a step needs, where none of its checks applies
+pub step_ready : (bytes : List ℕ) {lent : Lent} (terms : Terms) {run : RunRecord} → check_run bytes lent terms ≡ 0
+    → 0 ≡ check (broken (rooms_of lent) run) 33 0 → Ready (record { tables = lent; run = run })
+step_ready bytes {lent} terms {run} none whole =
+    let rooms = checked bytes lent terms none in
+    record {
+      blocker_room = rooms.even.blockers;
+      word_room = rooms.even.symbols;
+      room_fits = rooms.few_places;
+      bounds = unbroken_means (rooms_of lent) run (test_failed (broken (rooms_of lent) run) 33 0 (sym whole));
+    }
 
-    pub begin_goes : number ≡ 0 → {room' : BlockerRoom} {word' : WordRoom} → lent_of room' word' ≡ zeroed (lent_of room word) → (run : Run)
-        → record_in run ≡ record_of (start head.initial (head.finals ∷ []) terms.edition)
-        → stage room' word' run ≡ (begin_of image (lent_of room word) terms).left
-    unfolding begin_of begin_with
-    begin_goes none cleared run starts =
-        rw (
-          cleared,
-          starts ∙ ap (λ (h : Head). record_of (start h.initial (h.finals ∷ []) terms.edition)) read.read,
-          checked_is image room word terms read number passed ∙ none,
-        )
+-- what a step of the image that was read makes, by the terms that passed, is what it makes of the bytes by the caller's
+pub made_alike : {image bytes : List ℕ} {given terms : Terms} (at : Stage) {later : Stage} → image ≡ bytes → given ≡ terms
+    → later ≡ working_step image (given_of image given) at → later ≡ working_step bytes (given_of bytes terms) at
+made_alike at same given made = made ∙ ap₂ (λ (x : List ℕ) (t : Terms). working_step x (given_of x t) at) same given
 
--- one step, by its checks
-module _ (image : List ℕ) (room : BlockerRoom) (word : WordRoom) (terms : Terms) (before : Record) where
-  refused_step : (number : ℕ) → RefusedUnder image room word terms number
-      → called_as room word (record { number = number; left = before }) ≡ step_of image terms (stage_as room word before)
-  unfolding step_of step_with check_step check_record
-  refused_step zero refuses = absurd (refuses.some_number refl)
-  refused_step (suc number) refuses = rw refuses.checks
-
-  pub step_refuses_image : (answer : Image) → answer ≡ read_image image → (number : ℕ) → answer ≡ Answer.Refused number
-      → called_as room word (record { number = number; left = before }) ≡ step_of image terms (stage_as room word before)
-  step_refuses_image answer read number e = refused_step number (image_refuses image room word terms read e)
-
-  module _ {head : Head} (read : ReadAs image head) (number : ℕ)
-      (passed : number ≡ check_terms (lent_of room word) terms.hints terms.edition terms.way 0) where
-    pub step_refuses_terms : (number ≡ 0 → ⊥)
-        → called_as room word (record { number = number; left = before }) ≡ step_of image terms (stage_as room word before)
-    step_refuses_terms n = refused_step number (terms_refuse image room word terms read number passed n)
-
-    module _ (none : number ≡ 0) {b : Bool} (is : b ≡ broken (record { blockers = length room.masks; word = length word.cases }) (record_as before)) where
-      -- what the step's checks answer, by 33's test
-      checks : check_step image terms (stage_as room word before) ≡ check b 33 0
-      unfolding check_step check_record
-      checks = rw (checked_is image room word terms read number passed ∙ none, is)
-
-      pub step_breaks : b ≡ true
-          → called_as room word (record { number = 33; left = before }) ≡ step_of image terms (stage_as room word before)
-      unfolding step_of step_with check
-      step_breaks t = sym (rw (checks ∙ ap (λ (x : Bool). check x 33 0) t))
-
-      pub step_goes : b ≡ false → (run : Run) → record_in run ≡ record_as before → {room' : BlockerRoom} {word' : WordRoom} (later : Run) (left : Record)
-          → stage room' word' later ≡ went_on image (given_of image terms) 1 (stage room word run) → record_as left ≡ record_in later
-          → called_as room' word' (record { number = left.answer; left = left }) ≡ step_of image terms (stage_as room word before)
-      unfolding step_of step_with check went_on
-      step_goes whole run same {room'} {word'} later left went kept =
-          ap (λ (x : RunRecord). answering (record { tables = lent_of room' word'; run = x })) kept
-          ∙ ap answering (went ∙ ap (λ (x : RunRecord). went_on image (given_of image terms) 1 (record { tables = lent_of room word; run = x })) same)
-          ∙ sym (rw (checks ∙ ap (λ (x : Bool). check x 33 0) whole))
-
--- where neither these checks nor 33 apply
-module _ (room : BlockerRoom) (word : WordRoom) (hints : List ℕ) (edition way number : ℕ) (before : Record)
-    (passed : number ≡ check_terms (lent_of room word) hints edition way 0) (none : number ≡ 0) (b : Bool)
-    (is : b ≡ broken (record { blockers = length room.masks; word = length word.cases }) (record_as before)) (whole : b ≡ false) where
-  bounds : Unbroken (record { blockers = length room.masks; word = length word.cases }) (record_as before)
-  bounds = unbroken_means _ (record_as before) (sym is ∙ whole)
-
-  rooms : Checked room word
-  rooms = rooms_checked room word hints edition way number passed none
-
-  -- the record can be read as a run
-  pub fits_run : (before.answer ≤ 6) × (before.level.0 ≤ 65536)
-  fits_run = (bounds.answer, omega (arith, bounds.level, rooms.few_places))
-
-  -- which a step can be made of
-  pub step_ready : (run : Run) → record_in run ≡ record_as before → run.answer ≡ 6 → Ready (stage room word run)
-  step_ready run same six =
-      subst Ready (sym (ap (λ (x : RunRecord). record { tables = lent_of room word; run = x }) same))
-      (record { blocker_room = rooms.blocker_room; word_room = rooms.word_room; room_fits = rooms.few_places; bounds = bounds })
+-- the caller's record, which is made of the run that the step left
+pub step_kept : {tables : Lent} {number : ℕ} {kept left : RunRecord} {called : Called} → kept ≡ left
+    → record { number = number; left = record { tables = tables; run = left } } ≡ called
+    → record { number = number; left = record { tables = tables; run = kept } } ≡ called
+step_kept {tables} {number} same made =
+    ap (λ (run : RunRecord). record { number = number; left = record { tables = tables; run = run } }) same ∙ made

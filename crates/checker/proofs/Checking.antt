@@ -1,53 +1,76 @@
--- What refuses a call, the checks of its image or those of its rooms and terms, and what they leave of the rooms. Assumes nothing.
-use Prim.Native.Nat.{ℕ, zero, suc}
-use mathlib.Core.Path.{◌≡◌, refl, sym, ap, ◌∙◌}
-use mathlib.Core.List.{List}
+-- The checks after the image's: what an edition and a way of the caller's are. Assumes nothing.
+use Prim.Native.Nat.{ℕ, zero, suc, ◌≤◌}
+use mathlib.Core.Path.{◌≡◌, refl}
+use mathlib.Core.Bool.{true, false}
 use native.Mathlib.Omega.{arith}
-use Rattle.automata.specs.Image.{check_image}
-use Rattle.automata.specs.Answers.{ReadAs, read_with, read_image}
-use Rattle.automata.specs.declared.image.Head.{Head}
-use Rattle.automata.specs.declared.image.Image.{Image}
-use Rattle.automata.specs.declared.image.Image.TheVariants as Answer
-use Rattle.automata.proofs.WordTests.{answer_valid, answer_head}
-use Rattle.machine.specs.Lent.{BlockerRoom, WordRoom, lent_of}
-use Rattle.machine.specs.Runs.{Terms, check_terms, check_run}
-use Rattle.machine.proofs.RunsKept.{rooms_passed}
-use Rattle.checker.specs.Calls.{Checked}
+use borrow.Author.Tests.{ne_eqb}
+use Rattle.std.specs.Prelude.{Ok, Err}
+use Rattle.lists.specs.Tests.{◌or◌, neg}
+use Rattle.automata.specs.Refusals.{number_of}
+use Rattle.automata.specs.declared.refusal.Refusal.{Refusal}
+use Rattle.automata.specs.declared.refusal.Refusal.TheVariants.{ShortImage, StateCount, SymbolCount, RowCount, ImageLength, StateSet, Pair, Row, UnevenRoom, LargeTable, UnknownSymbol, BrokenRecord, ShortRoom, UnknownEdition, UnknownWay}
+use Rattle.machine.specs.Runs.{unknown_edition, unknown_way}
+use Rattle.checker.specs.declared.terms.Way.{Way}
+use Rattle.checker.specs.declared.terms.Edition.{Edition}
+use Rattle.checker.specs.Calls.{edition_of, way_of}
 
--- the checks of a run refuse it under this number
-pub record RefusedUnder (image : List ℕ) (room : BlockerRoom) (word : WordRoom) (terms : Terms) (number : ℕ) : Type 0 where
-  pub some_number : number ≡ 0 → ⊥
-  pub checks : check_run image (lent_of room word) terms ≡ number
+pub edition_known : {edition : Edition} (number : ℕ) → edition_of number ≡ Ok edition → unknown_edition number ≡ false
+unfolding unknown_edition ◌or◌ neg
+edition_known zero e = let z : ◌≡◌ {A = ℕ} 0 1 = cc in absurd (omega arith)
+edition_known (suc zero) e = refl
+edition_known (suc (suc zero)) e = refl
+edition_known (suc (suc (suc number))) e = let z : ◌≡◌ {A = ℕ} 0 1 = cc in absurd (omega arith)
 
-module _ (image : List ℕ) (room : BlockerRoom) (word : WordRoom) (terms : Terms) where
-  -- by what the reader answers of the image
-  module _ {answer : Image} (read : answer ≡ read_image image) where
-    pub image_refuses : {number : ℕ} → answer ≡ Answer.Refused number → RefusedUnder image room word terms number
-    unfolding check_run read_image read_with check_terms
-    image_refuses {number} e = at (check_image image) (sym read ∙ e) refl
-      where
-        at : (checked : ℕ) → read_with image checked ≡ Answer.Refused number → check_image image ≡ checked → RefusedUnder image room word terms number
-        at zero f c = let z : ◌≡◌ {A = ℕ} 0 1 = cc in absurd (omega arith)
-        at (suc checked) f c =
-            let z : suc checked ≡ number = cc in
-            record { some_number = λ none. omega (arith, z); checks = rw c z }
+pub way_known : {way : Way} (number : ℕ) → way_of number ≡ Ok way → unknown_way number ≡ false
+unfolding unknown_way ◌or◌ neg
+way_known zero e = refl
+way_known (suc zero) e = refl
+way_known (suc (suc number)) e = let z : ◌≡◌ {A = ℕ} 0 1 = cc in absurd (omega arith)
 
-    pub image_reads : (head : Head) → answer ≡ Answer.Valid head → ReadAs image head
-    image_reads head e = record { valid = answer_valid image answer read head e; read = answer_head image answer read head e }
+module _ {refusal : Refusal} where
+  pub edition_unknown : (number : ℕ) → edition_of number ≡ Err refusal → unknown_edition number ≡ true
+  unfolding unknown_edition ◌or◌ neg
+  edition_unknown zero e = refl
+  edition_unknown (suc zero) e = let z : ◌≡◌ {A = ℕ} 0 1 = cc in absurd (omega arith)
+  edition_unknown (suc (suc zero)) e = let z : ◌≡◌ {A = ℕ} 0 1 = cc in absurd (omega arith)
+  edition_unknown (suc (suc (suc number))) e =
+      rw (ne_eqb (suc (suc (suc number))) 1 (λ z. omega (arith, z)), ne_eqb (suc (suc (suc number))) 2 (λ z. omega (arith, z)))
 
-  -- of a valid image, by the checks of the rooms and the terms
-  module _ {head : Head} (read : ReadAs image head) (number : ℕ)
-      (passed : number ≡ check_terms (lent_of room word) terms.hints terms.edition terms.way 0) where
-    pub checked_is : check_run image (lent_of room word) terms ≡ number
-    unfolding check_run
-    checked_is = ap (check_terms (lent_of room word) terms.hints terms.edition terms.way) read.valid ∙ sym passed
+  pub edition_refused : (number : ℕ) → edition_of number ≡ Err refusal → number_of refusal ≡ 36
+  edition_refused zero e = cc
+  edition_refused (suc zero) e = let z : ◌≡◌ {A = ℕ} 0 1 = cc in absurd (omega arith)
+  edition_refused (suc (suc zero)) e = let z : ◌≡◌ {A = ℕ} 0 1 = cc in absurd (omega arith)
+  edition_refused (suc (suc (suc number))) e = cc
 
-    pub terms_refuse : (number ≡ 0 → ⊥) → RefusedUnder image room word terms number
-    terms_refuse n = record { some_number = n; checks = checked_is }
+  pub way_unknown : (number : ℕ) → way_of number ≡ Err refusal → unknown_way number ≡ true
+  unfolding unknown_way ◌or◌ neg
+  way_unknown zero e = let z : ◌≡◌ {A = ℕ} 0 1 = cc in absurd (omega arith)
+  way_unknown (suc zero) e = let z : ◌≡◌ {A = ℕ} 0 1 = cc in absurd (omega arith)
+  way_unknown (suc (suc number)) e =
+      rw (ne_eqb (suc (suc number)) 0 (λ z. omega (arith, z)), ne_eqb (suc (suc number)) 1 (λ z. omega (arith, z)))
 
--- none of those of the rooms applies
-pub rooms_checked : (room : BlockerRoom) (word : WordRoom) (hints : List ℕ) (edition way number : ℕ)
-    → number ≡ check_terms (lent_of room word) hints edition way 0 → number ≡ 0 → Checked room word
-rooms_checked room word hints edition way number passed none =
-    let c = rooms_passed (lent_of room word) hints edition way (sym passed ∙ none) in
-    record { blocker_room = c.even.blockers; word_room = c.even.symbols; few_places = c.few_places }
+  pub way_refused : (number : ℕ) → way_of number ≡ Err refusal → number_of refusal ≡ 37
+  way_refused zero e = let z : ◌≡◌ {A = ℕ} 0 1 = cc in absurd (omega arith)
+  way_refused (suc zero) e = let z : ◌≡◌ {A = ℕ} 0 1 = cc in absurd (omega arith)
+  way_refused (suc (suc number)) e = cc
+
+-- a refusal's number is none of an answer's
+pub refused_from_20 : (refusal : Refusal) → 20 ≤ number_of refusal
+refused_from_20 ShortImage = omega arith
+refused_from_20 StateCount = omega arith
+refused_from_20 SymbolCount = omega arith
+refused_from_20 RowCount = omega arith
+refused_from_20 ImageLength = omega arith
+refused_from_20 StateSet = omega arith
+refused_from_20 Pair = omega arith
+refused_from_20 Row = omega arith
+refused_from_20 UnevenRoom = omega arith
+refused_from_20 LargeTable = omega arith
+refused_from_20 UnknownSymbol = omega arith
+refused_from_20 BrokenRecord = omega arith
+refused_from_20 ShortRoom = omega arith
+refused_from_20 UnknownEdition = omega arith
+refused_from_20 UnknownWay = omega arith
+
+pub some_number : (refusal : Refusal) → number_of refusal ≡ 0 → ⊥
+some_number refusal e = omega (arith, e, refused_from_20 refusal)

@@ -1,25 +1,26 @@
 -- Steps one after the other: what a loop that makes them has come to, and that a run is a begin and then steps. Assumes nothing.
 use Prim.Native.Nat.{ℕ, zero, suc, ◌-◌, ◌≤◌, ◌<◌}
-use mathlib.Core.Path.{◌≡◌, refl, sym, ap, ap₂, subst, ◌∙◌}
+use mathlib.Core.Path.{◌≡◌, refl, sym, ap, subst, ◌∙◌}
+use mathlib.Core.Bool.{Bool, true, false}
 use mathlib.Core.List.{List}
 use mathlib.Core.Logic.{◌⊎◌, inl, inr}
 use native.Mathlib.Omega.{arith}
-use borrow.Author.Tests.{eq-eqb, ne_eqb}
+use borrow.Author.Tests.{eq-eqb, ne_eqb, eqb-true, eqb-false}
+use lib.Dec.{eqb}
 use lib.ListN.{length, replicate}
 use Rattle.lists.specs.Tests.{choose}
-use Rattle.automata.specs.declared.image.Head.{Head}
-use Rattle.automata.specs.Answers.{ReadAs}
-use Rattle.machine.specs.Machine.{Given}
-use Rattle.machine.specs.Lent.{BlockerRoom, WordRoom, Lent, lent_of, EvenRooms}
-use Rattle.machine.specs.Runs.{Terms, Stage, system_of, step_given, given_of, check_run, run_of}
-use Rattle.machine.specs.Records.{Called, working_step, begin_of, step_with, step_of, steps_from, reached_by}
+use Rattle.machine.specs.Machine.{Given, Next, goes_on, ends}
+use Rattle.machine.specs.Lent.{Lent, EvenRooms}
+use Rattle.machine.specs.Runs.{Terms, RunRecord, Stage, system_of, given_of, rooms_of, number_of, record_of, check_run, run_of}
+use Rattle.machine.specs.Records.{Called, answering, configuration_of, after, working_step, begin_of, step_with, step_of, steps_from, reached_by}
 use Rattle.machine.specs.Promises.{BeginPromises}
+use Rattle.machine.proofs.Judging.{number_low}
+use Rattle.machine.proofs.Steps.{Advanced, tried, advanced, advanced_counts}
 use Rattle.machine.proofs.RunsKept.{checked, run_number}
-use Rattle.machine.proofs.AnyRecord.{SameLengths, lengths_same, Takes, takes_checked, work_takes, stepped, stepped_takes, unworked_stays}
+use Rattle.machine.proofs.AnyRecord.{Takes, takes_checked, work_takes, stepped, stepped_takes, unworked_stays}
 use Rattle.machine.proofs.RecordSteps.{begin_takes}
 use Rattle.machine.proofs.StepsKept.{begin_promises, run_is_steps}
-use Rattle.checker.specs.declared.record.Run.{Run}
-use Rattle.checker.specs.Stage.{terms_of, stage, went_on, Ready}
+use Rattle.checker.specs.Stage.{Ready}
 
 -- what a step needs, of tables as long as those that passed
 takes_ready : {lent : Lent} {at : Stage} → EvenRooms lent → length lent.word.cases ≤ 65536 → Takes lent at → Ready at
@@ -34,6 +35,11 @@ takes_ready {lent} {at} even few takes =
       room_fits = omega (arith, same.cases);
       bounds = rw (same.masks, same.cases) takes.unbroken;
     }
+
+-- so many calls one after the other, of which none is refused: each makes a step if the record works
+unfoldable pub went_on : List ℕ → Given → ℕ → Stage → Stage
+went_on image given zero at = at
+went_on image given (suc calls) at = went_on image given calls (choose (eqb at.run.answer 6) (working_step image given at) at)
 
 module _ (image : List ℕ) (given : Given) where
   -- a record that works goes on by its step; one that does not stays as it is
@@ -52,56 +58,82 @@ work_leaves : (image : List ℕ) (given : Given) {at : Stage} → Ready at → T
 work_leaves image given {at} ready =
     work_takes image given at (record { blockers = ready.blocker_room; symbols = ready.word_room }) ready.bounds
 
--- The loop: from `before` there were `more` steps to make behind the next one, and `left` are left.
-pub record GoesOn (image : List ℕ) (head : Head) (given : Given) (more : ℕ) (before : Stage) (left : ℕ) (at : Stage) : Type 0 where
-  pub read : ReadAs image head
+-- a step that leaves a record which works was within the allowance, and it counts
+module _ (image : List ℕ) (given : Given) (at : Stage) where
+  -- where it works, the machine goes on
+  working_goes : (n : Next) → number_of n ≡ 6 → Advanced (system_of image) (rooms_of at.tables) given (configuration_of at) n
+      → (at.run.steps < given.allowance) × ((record_of n).steps ≡ suc at.run.steps)
+  unfolding number_of record_of
+  working_goes (goes_on d) six how = (within how, advanced_counts (system_of image) (rooms_of at.tables) how)
+    where
+      within : Advanced (system_of image) (rooms_of at.tables) given (configuration_of at) (goes_on d) → at.run.steps < given.allowance
+      within (tried l j) = l
+  working_goes (ends o d) six how = absurd (omega (arith, six, number_low o))
+
+  pub step_counts : (working_step image given at).run.answer ≡ 6
+      → (at.run.steps < given.allowance) × ((working_step image given at).run.steps ≡ suc at.run.steps)
+  unfolding working_step after record_of
+  step_counts six = working_goes _ six (advanced (system_of image) (rooms_of at.tables) given (configuration_of at))
+
+-- The loop: as many steps are left as the allowance has above those that were made, and one that finds it used up.
+pub record GoesOn (image : List ℕ) (lent : Lent) (terms : Terms) (at : Stage) : Type 0 where
   pub ready : at.run.answer ≡ 6 → Ready at
-  pub same : went_on image given (suc left) at ≡ went_on image given (suc more) before
-  pub long : SameLengths before.tables at.tables
+  pub same : went_on image (given_of image terms) (suc (terms.allowance - at.run.steps)) at ≡ run_of image lent terms
 
-pub goes_ready : {image : List ℕ} {head : Head} {given : Given} {more left : ℕ} {before at : Stage} → GoesOn image head given more before left at
-    → at.run.answer ≡ 6 → Ready at
-goes_ready goes = goes.ready
+-- how far it is from its end
+pub distance : ℕ → RunRecord → ℕ
+distance allowance run = choose (eqb run.answer 6) (suc (allowance - run.steps)) 0
 
-pub fewer_left : (left : ℕ) → (left ≡ 0 → ⊥) → left - 1 < left
-fewer_left left some = omega arith
+module _ {image : List ℕ} {lent : Lent} {terms : Terms} {at : Stage} (goes : GoesOn image lent terms at) where
+  pub goes_ready : at.run.answer ≡ 6 → Ready at
+  goes_ready = goes.ready
 
-pub goes_starts : {image : List ℕ} {head : Head} (given : Given) (more : ℕ) (at : Stage) → ReadAs image head → (at.run.answer ≡ 6 → Ready at)
-    → GoesOn image head given more at more at
-goes_starts given more at read ready = record { read = read; ready = ready; same = refl; long = lengths_same at.tables }
+  pub goes_ends : (at.run.answer ≡ 6 → ⊥) → at ≡ run_of image lent terms
+  goes_ends not = sym (went_nowhere image (given_of image terms) (suc (terms.allowance - at.run.steps)) at not) ∙ goes.same
 
-module _ {image : List ℕ} {head : Head} {given : Given} {more left : ℕ} {before at later : Stage} (goes : GoesOn image head given more before left at)
-    (six : at.run.answer ≡ 6) (made : later ≡ working_step image given at) where
-  left_takes : Takes at.tables later
-  left_takes = subst (Takes at.tables) (sym made) (work_leaves image given (goes.ready six))
+  module _ (six : at.run.answer ≡ 6) {later : Stage} (made : later ≡ working_step image (given_of image terms) at) where
+    later_counts : later.run.answer ≡ 6 → (at.run.steps < terms.allowance) × (later.run.steps ≡ suc at.run.steps)
+    later_counts works =
+        let counts = step_counts image (given_of image terms) at (sym (ap (λ (x : Stage). x.run.answer) made) ∙ works) in
+        (counts.0, ap (λ (x : Stage). x.run.steps) made ∙ counts.1)
 
-  pub goes_again : (left ≡ 0 → ⊥) → GoesOn image head given more before (left - 1) later
-  goes_again some =
-      let r = goes.ready six in
-      let now = left_takes.same in
-      let old = goes.long in
-      let fewer : suc (left - 1) ≡ left = omega arith in
-      record {
-        read = goes.read;
-        ready = λ _. takes_ready (record { blockers = r.blocker_room; symbols = r.word_room }) r.room_fits left_takes;
-        same = ap₂ (λ (calls : ℕ) (x : Stage). went_on image given calls x) fewer made ∙ sym (went_further image given left at six) ∙ goes.same;
-        long = record {
-          masks = now.masks ∙ old.masks;
-          levels = now.levels ∙ old.levels;
-          entered = now.entered ∙ old.entered;
-          cases = now.cases ∙ old.cases;
-          symbols = now.symbols ∙ old.symbols;
-        };
-      }
+    later_same : went_on image (given_of image terms) (suc (terms.allowance - later.run.steps)) later ≡ run_of image lent terms
+    later_same = from (eqb later.run.answer 6) refl
+      where
+        before : went_on image (given_of image terms) (terms.allowance - at.run.steps) later ≡ run_of image lent terms
+        before =
+            ap (λ (x : Stage). went_on image (given_of image terms) (terms.allowance - at.run.steps) x) made
+            ∙ sym (went_further image (given_of image terms) (terms.allowance - at.run.steps) at six)
+            ∙ goes.same
 
-  pub goes_returns : left ≡ 0 → later ≡ went_on image given (suc more) before
-  unfolding went_on
-  goes_returns none =
-      made ∙ sym (went_further image given 0 at six) ∙ ap (λ (calls : ℕ). went_on image given (suc calls) at) (sym none) ∙ goes.same
+        from : (b : Bool) → eqb later.run.answer 6 ≡ b
+            → went_on image (given_of image terms) (suc (terms.allowance - later.run.steps)) later ≡ run_of image lent terms
+        from true e =
+            let counts = later_counts (eqb-true _ _ e) in
+            let fewer : suc (terms.allowance - later.run.steps) ≡ terms.allowance - at.run.steps = omega (arith, counts.0, counts.1) in
+            ap (λ (calls : ℕ). went_on image (given_of image terms) calls later) fewer ∙ before
+        from false e =
+            went_nowhere image (given_of image terms) (suc (terms.allowance - later.run.steps)) later (eqb-false _ _ e)
+            ∙ sym (went_nowhere image (given_of image terms) (terms.allowance - at.run.steps) later (eqb-false _ _ e))
+            ∙ before
 
-pub goes_ends : {image : List ℕ} {head : Head} {given : Given} {more left : ℕ} {before at : Stage} → GoesOn image head given more before left at
-    → (at.run.answer ≡ 6 → ⊥) → at ≡ went_on image given (suc more) before
-goes_ends {image} {given = given} {left = left} {at = at} goes not = sym (went_nowhere image given (suc left) at not) ∙ goes.same
+    pub goes_again : GoesOn image lent terms later
+    goes_again =
+        let r = goes.ready six in
+        record {
+          ready = λ _. takes_ready (record { blockers = r.blocker_room; symbols = r.word_room }) r.room_fits
+              (subst (Takes at.tables) (sym made) (work_leaves image (given_of image terms) r));
+          same = later_same;
+        }
+
+    pub goes_nearer : distance terms.allowance later.run < distance terms.allowance at.run
+    unfolding distance choose
+    goes_nearer = from (eqb later.run.answer 6) refl
+      where
+        from : (b : Bool) → eqb later.run.answer 6 ≡ b
+            → choose (eqb later.run.answer 6) (suc (terms.allowance - later.run.steps)) 0 < choose (eqb at.run.answer 6) (suc (terms.allowance - at.run.steps)) 0
+        from true e = let counts = later_counts (eqb-true _ _ e) in rw (e, eq-eqb _ _ six) (omega (arith, counts.0, counts.1))
+        from false e = rw (e, eq-eqb _ _ six) (omega arith)
 
 -- equal calls that are not refused are steps one after the other
 module _ (image : List ℕ) (lent : Lent) (terms : Terms) (none : check_run image lent terms ≡ 0) where
@@ -151,22 +183,14 @@ module _ (image : List ℕ) (lent : Lent) (terms : Terms) where
           went_nowhere image (given_of image terms) (suc terms.allowance) (begin_of image lent terms).left not
           ∙ sym (unworked_stays image (begin_of image lent terms).left not (replicate (suc terms.allowance) terms))
 
--- a begin looks at no allowance
-begin_same : (image : List ℕ) (lent : Lent) (hints : List ℕ) (allowance edition way : ℕ)
-    → begin_of image lent (terms_of hints 0 edition way) ≡ begin_of image lent (terms_of hints allowance edition way)
-unfolding begin_of check_run
-begin_same image lent hints allowance edition way = refl
-
-module _ (image : List ℕ) (room : BlockerRoom) (word : WordRoom) (hints : List ℕ) (allowance edition way : ℕ) {room₁ : BlockerRoom} {word₁ : WordRoom} {begun : Run}
-    (begins : stage room₁ word₁ begun ≡ (begin_of image (lent_of room word) (terms_of hints 0 edition way)).left) where
-  pub run_ready : begun.answer ≡ 6 → Ready (stage room₁ word₁ begun)
-  run_ready six =
-      subst Ready (sym begins)
-      (begun_ready image (lent_of room word) (terms_of hints 0 edition way) (sym (ap (λ (x : Stage). x.run.answer) begins) ∙ six))
-
-  pub run_ends : {later : Stage} → later ≡ went_on image (step_given image hints allowance way) (suc allowance) (stage room₁ word₁ begun)
-      → later ≡ run_of image (lent_of room word) (terms_of hints allowance edition way)
-  run_ends went =
-      went ∙ ap (λ (x : Stage). went_on image (step_given image hints allowance way) (suc allowance) x)
-      (begins ∙ ap (λ (called : Called). called.left) (begin_same image (lent_of room word) hints allowance edition way))
-      ∙ run_went image (lent_of room word) (terms_of hints allowance edition way)
+-- the loop begins with what a begin leaves
+pub goes_starts : (image : List ℕ) (lent : Lent) (terms : Terms) {at : Stage} → answering at ≡ begin_of image lent terms → at.run.steps ≡ 0
+    → GoesOn image lent terms at
+goes_starts image lent terms {at} begins none =
+    let same : at ≡ (begin_of image lent terms).left = ap (λ (called : Called). called.left) begins in
+    record {
+      ready = λ six. subst Ready (sym same) (begun_ready image lent terms (sym (ap (λ (x : Stage). x.run.answer) same) ∙ six));
+      same = ap (λ (calls : ℕ). went_on image (given_of image terms) (suc calls) at) (let e : terms.allowance - at.run.steps ≡ terms.allowance = omega (arith, none) in e)
+          ∙ ap (λ (x : Stage). went_on image (given_of image terms) (suc terms.allowance) x) same
+          ∙ run_went image lent terms;
+    }

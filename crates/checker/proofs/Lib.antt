@@ -1,11 +1,12 @@
--- Laws of a run's stages, by subject.
+-- Laws.
+pub mod Checking
+pub mod Records
 pub mod Stages
 pub mod Opening
+pub mod Closing
 pub mod Blocking
 pub mod Working
-pub mod Closing
 pub mod Stepping
 pub mod Starting
-pub mod Going
-pub mod Checking
 pub mod Calling
+pub mod Going

@@ -1,28 +1,30 @@
 // Begin, for every input: all that is lent is checked, and the start is made in tables that hold 0.
 ghost use Rattle.std.specs.Prelude.{◌≡◌, [], ◌∷◌};
-ghost use Rattle.automata.specs.Answers.{ReadAs};
+ghost use Rattle.automata.specs.Image.{initial_of, final_of};
 ghost use Rattle.machine.specs.Machine.{start as machine_start};
 ghost use Rattle.machine.specs.Lent.{zeroed};
-ghost use Rattle.machine.specs.Lending.{room_now, word_now, lent_before, lent_after};
 ghost use Rattle.machine.specs.Runs.{record_of, alone_record};
 ghost use Rattle.machine.specs.Records.{answering, begin_of};
-ghost use Rattle.checker.specs.Stage.{terms_of, record_in};
-ghost use Rattle.checker.specs.Calls.{Checked};
-ghost use Rattle.checker.specs.Moments.{stage_after, kept_after};
+ghost use Rattle.blockers.specs.Tables.{SameRoom};
+ghost use Rattle.wordroom.specs.Tables.{SameWord};
+ghost use Rattle.checker.specs.Stage.{record_in, lent_in, terms_in, number_of_edition, stage_left};
+ghost use Rattle.checker.specs.Calls.{record_as};
 
-use crate::checks::check_terms;
-use crate::record::{Record, Run};
-use automata::image::{Head, Image};
-use blockers::Level;
+use crate::record::{Answer, KeptLevel, Record, Run};
+use crate::terms::{Edition, Terms, check_run};
+use automata::image::Image;
+use automata::refusal::Refusal;
+use blockers::room::BlockerRoom;
+use wordroom::WordRoom;
 
-// A run that has made no step: this answer, and 0 in the other fields.
-pub fn alone(answer: u8) -> Run
-    ensures { record_in result ≡ alone_record answer }
+// A record of this number alone, with 0 in its other fields.
+pub fn alone(number: u64) -> Record
+    ensures { record_as result ≡ alone_record number }
 {
-    Run {
-        answer,
+    Record {
+        answer: number,
         steps: 0,
-        level: Level(0),
+        level: KeptLevel(0),
         opened: false,
         held: 0,
         pending: 0,
@@ -32,79 +34,44 @@ pub fn alone(answer: u8) -> Run
 }
 
 // The start: where I is a subset of F, 1 with the empty word, in edition 2 5; else a run that works.
-fn start(head: Head, edition: u64) -> Run
-    ensures { record_in result ≡ record_of (machine_start head.initial (head.finals ∷ []) edition) }
+pub(crate) fn start(image: &Image<'_>, edition: Edition) -> Run
+    ensures { record_in result ≡ record_of (machine_start (initial_of image.now) (final_of image.now ∷ []) (number_of_edition edition)) }
 {
+    let head = image.head();
     if !masks::subset(head.initial, head.finals) {
-        return alone(6);
+        return Run::begun(Answer::Working);
     }
-    if edition == 2 {
-        return alone(5);
+    match edition {
+        Edition::First => Run::begun(Answer::Word),
+        Edition::Second => Run::begun(Answer::StartsFinal),
     }
-    alone(1)
 }
 
 // Every place of both rooms becomes 0.
-fn clear_rooms(
-    masks: &mut [u64],
-    levels: &mut [u32],
-    entered: &mut [u64],
-    cases: &mut [u64],
-    symbols: &mut [u8],
-)
-    requires { Checked (room_now masks.old levels.old entered.old) (word_now cases.old symbols.old) }
-    ensures { lent_after masks.new levels.new entered.new cases.new symbols.new ≡ zeroed (lent_before masks.old levels.old entered.old cases.old symbols.old) }
+pub(crate) fn clear_rooms(room: &mut BlockerRoom<'_>, word: &mut WordRoom<'_>)
+    ensures cleared { lent_in room.new word.new ≡ zeroed (lent_in room.old word.old) }
+    ensures same_room { SameRoom room.old room.new }
+    ensures same_word { SameWord word.old word.new }
 {
-    blockers::clear_between(masks, levels, entered, 0, masks.len());
-    wordroom::clear_first(cases, symbols, cases.len());
+    room.masks.fill(0);
+    room.levels.fill(0);
+    room.entered.fill(0);
+    word.cases.fill(0);
+    word.symbols.fill(0);
 }
 
-// The begin on a valid image: refused where the rooms or the terms are, else the start, in cleared tables.
-pub(crate) fn begin_read(
-    image: &[u8],
-    head: Head,
-    masks: &mut [u64],
-    levels: &mut [u32],
-    entered: &mut [u64],
-    cases: &mut [u64],
-    symbols: &mut [u8],
-    hints: &[u64],
-    edition: u64,
-    way: u64,
-) -> Run
-    requires { ReadAs image.now head }
-    ensures { stage_after masks.new levels.new entered.new cases.new symbols.new result
-        ≡ (begin_of image.now (lent_before masks.old levels.old entered.old cases.old symbols.old) (terms_of hints.now 0 edition way)).left }
-{
-    let number = check_terms(masks, levels, entered, cases, symbols, hints, edition, way);
-    if number != 0 {
-        return alone(number);
-    }
-    clear_rooms(masks, levels, entered, cases, symbols);
-    start(head, edition)
-}
-
-// Begin: the number of the first check that applies, with every table as it was; else the start, in tables that hold 0. The record's answer is the number
-// that the call gives.
+// Begin: the first check that applies, with every table as it was; else the start, in tables that hold 0.
 pub fn begin(
     image: &[u8],
-    masks: &mut [u64],
-    levels: &mut [u32],
-    entered: &mut [u64],
-    cases: &mut [u64],
-    symbols: &mut [u8],
-    hints: &[u64],
-    edition: u64,
-    way: u64,
-) -> Record
-    ensures { answering (kept_after masks.new levels.new entered.new cases.new symbols.new result)
-        ≡ begin_of image.now (lent_before masks.old levels.old entered.old cases.old symbols.old) (terms_of hints.now 0 edition way) }
+    room: &mut BlockerRoom<'_>,
+    word: &mut WordRoom<'_>,
+    terms: &Terms<'_>,
+) -> Result<Run, Refusal>
+    ensures begun { answering (stage_left room.new word.new result) ≡ begin_of image.now (lent_in room.old word.old) (terms_in terms.now) }
+    ensures same_room { SameRoom room.old room.new }
+    ensures same_word { SameWord word.old word.new }
 {
-    match automata::image::read_image(image) {
-        Image::Refused(number) => alone(number).to_record(),
-        Image::Valid(head) => begin_read(
-            image, head, masks, levels, entered, cases, symbols, hints, edition, way,
-        )
-        .to_record(),
-    }
+    let (image, given) = check_run(image, room, word, terms)?;
+    clear_rooms(room, word);
+    Ok(start(&image, given.edition))
 }

@@ -2,8 +2,8 @@
 #![tactic(auto)]
 
 pub mod begin; // begin.rt: the begin of a run, for every input
-pub mod checks; // checks.rt: what is refused after the image
 pub mod record; // record.rt: what a run carries from step to step
 pub mod run; // run.rt: the whole run, for every input
 pub mod step; // step.rt: one step of a run, for every input
-pub mod steps; // steps.rt: open, extend, block, close, the step that is one of them, and steps one after the other
+pub mod steps; // steps.rt: open, extend, block, close, and the step that is one of them
+pub mod terms; // terms.rt: the terms of a run, and what is refused

@@ -1,4 +1,4 @@
--- The set that blocks a case: what it grows to by the way, and whether a hint is taken. Assumes nothing.
+-- Whether a hint is taken: by its place among the hints, and by whether it passes. Assumes nothing.
 use Prim.Native.Nat.{ℕ, zero, suc, ◌≤◌, ◌<◌}
 use mathlib.Core.Path.{◌≡◌, refl, sym, ◌∙◌}
 use mathlib.Core.Bool.{Bool, true, false}
@@ -7,9 +7,11 @@ use mathlib.Core.Option.{none, some}
 use native.Mathlib.Omega.{arith}
 use lib.ListN.{length, get_or}
 use Rattle.lists.specs.Tests.{choose}
+use Rattle.automata.specs.WordTest.{one_if}
 use Rattle.machine.specs.System.{System}
 use Rattle.machine.specs.Machine.{Blocker, passes, Growth, by_states, hint_at, chosen_from}
 use Rattle.machine.specs.Hitting.{RowSource, by_hitting_set, growth_of}
+use Rattle.choices.specs.Found.{choice_of}
 
 -- what a case grows to by the way
 module _ (S : System) (rows : RowSource) (table : List Blocker) (below X grown : ℕ) where
@@ -35,19 +37,19 @@ hint_lacks [] t l = refl
 hint_lacks (hint ∷ hints) zero l = absurd (omega arith)
 hint_lacks (hint ∷ hints) (suc t) l = hint_lacks hints t (omega arith)
 
-module _ (S : System) (grow : Growth) (table : List Blocker) (below X : ℕ) (hints : List ℕ) (blocks : ℕ) where
-  pub chosen_without : (mask : ℕ) → length hints ≤ blocks → mask ≡ grow table below X
-      → record { mask = mask; hinted = 0 } ≡ chosen_from S grow table below X (hint_at hints blocks)
-  unfolding chosen_from
-  chosen_without mask l e = sym (rw (hint_lacks hints blocks l, e))
+module _ (S : System) (grow : Growth) (table : List Blocker) (below X : ℕ) (hints : List ℕ) (blocks mask : ℕ) where
+  pub chosen_without : length hints ≤ blocks → mask ≡ grow table below X
+      → choice_of (record { mask = mask; hinted = false }) ≡ chosen_from S grow table below X (hint_at hints blocks)
+  unfolding chosen_from one_if
+  chosen_without l e = sym (rw (hint_lacks hints blocks l, e))
 
-  module _ (passing : Bool) (l : blocks < length hints) (test : passing ≡ passes S table below X (get_or hints blocks 0)) where
+  module _ (hint : ℕ) (l : blocks < length hints) (is : hint ≡ get_or hints blocks 0) (passing : Bool) (test : passing ≡ passes S table below X hint) where
     pub chosen_hint : passing ≡ true
-        → record { mask = get_or hints blocks 0; hinted = 1 } ≡ chosen_from S grow table below X (hint_at hints blocks)
-    unfolding chosen_from choose
-    chosen_hint t = sym (rw (hint_there hints blocks l, ← test, t))
+        → choice_of (record { mask = hint; hinted = true }) ≡ chosen_from S grow table below X (hint_at hints blocks)
+    unfolding chosen_from choose one_if
+    chosen_hint t = sym (rw (hint_there hints blocks l, ← is, ← test, t))
 
-    pub chosen_grown : (mask : ℕ) → passing ≡ false → mask ≡ grow table below X
-        → record { mask = mask; hinted = 0 } ≡ chosen_from S grow table below X (hint_at hints blocks)
-    unfolding chosen_from choose
-    chosen_grown mask f e = sym (rw (hint_there hints blocks l, ← test, f, e))
+    pub chosen_grown : passing ≡ false → mask ≡ grow table below X
+        → choice_of (record { mask = mask; hinted = false }) ≡ chosen_from S grow table below X (hint_at hints blocks)
+    unfolding chosen_from choose one_if
+    chosen_grown f e = sym (rw (hint_there hints blocks l, ← is, ← test, f, e))

@@ -1,128 +1,133 @@
--- The loops over the symbols: the search for the first symbol that qualifies, with its walk over the blockers, and a test of each backward set.
--- Assumes nothing.
-use Prim.Native.Nat.{ℕ, ◌+◌, ◌-◌, ◌≤◌, ◌<◌}
+-- The search for the first symbol that qualifies, with its walk over the blockers. Assumes nothing.
+use Rattle.std.specs.Prelude.{Option, Some, None}
+use Rattle.std.specs.Option.{is_some}
+use Prim.Native.Nat.{ℕ, zero, suc, ◌+◌, ◌-◌, ◌≤◌, ◌<◌, min}
 use mathlib.Core.Path.{◌≡◌, refl, sym, ap, ◌∙◌}
 use mathlib.Core.Bool.{Bool, true, false}
 use mathlib.Core.List.{List, [], ◌∷◌}
-use native.Mathlib.Nat.{sub-zero}
+use native.Mathlib.Decide.{ℕ_discrete}
 use native.Mathlib.Omega.{arith}
+use borrow.Author.Tests.{eqb-true, eqb-false}
 use lib.Dec.{eqb}
 use lib.ListN.{length}
-use Rattle.lists.specs.Tests.{neg}
-use Rattle.lists.specs.Lists.{first_from}
+use Rattle.lists.specs.Tests.{◌or◌, neg}
+use Rattle.lists.specs.Lists.{any, first_from}
 use Rattle.lists.proofs.Lists.{first_from_here, first_from_later, first_from_nowhere}
+use Rattle.lists.proofs.Tests.{or_first, or_second, or_rest}
 use Rattle.masks.specs.Sets.{subset, lowest_absent}
 use Rattle.automata.specs.Image.{symbols_of, initial_of, rows_of}
 use Rattle.automata.specs.Automaton.{backward}
+use Rattle.automata.specs.declared.image.Symbol.{Symbol}
 use Rattle.automata.specs.declared.image.Head.{Head}
 use Rattle.automata.specs.Answers.{ReadAs}
-use Rattle.automata.proofs.Reading.{head_symbols, head_initial}
-use Rattle.machine.specs.Machine.{settled, qualifies}
-use Rattle.machine.specs.Lent.{blocker_at, unstamped_room, blockers_in}
+use Rattle.automata.proofs.Reading.{head_initial}
+use Rattle.machine.specs.Machine.{Blocker, covers, blocked, settled, qualifies}
+use Rattle.machine.specs.Lent.{BlockerRoom, blocker_at, blockers_from, unstamped_room, blockers_in}
 use Rattle.machine.specs.Why.{first_covering, absent_reason, why, is_reason}
 use Rattle.machine.specs.Runs.{system_of}
+use Rattle.machine.proofs.Reasons.{blocked_by_reason}
 use Rattle.blockers.specs.Answers.{reason_of, Skips}
 use Rattle.blockers.specs.declared.reasons.Reason.{Reason}
-use Rattle.blockers.specs.declared.reasons.Reason.TheVariants.{Nothing as NoReason}
-use Rattle.blockers.proofs.Walks.{Walked, walk_begins, walk_finds, walk_goes, walk_ends}
-use Rattle.blockers.proofs.WhyBlocked.{why_bottom, why_above}
+use Rattle.blockers.proofs.Walks.{reason_there, one_told}
 use Rattle.choices.specs.Found.{found_of}
-use Rattle.choices.specs.declared.Found.{Found}
-use Rattle.choices.specs.declared.Found.TheVariants.{At, Nothing}
-use Rattle.passing.proofs.Blocking.{settled_inside, settled_told}
 
--- whether a symbol can extend X, and the first that can
-abbrev extending : List ℕ → List ℕ → List ℕ → ℕ → ℕ → ℕ → Bool
-extending image masks levels below X = qualifies (system_of image) (blockers_in masks levels) below X
+-- one of some blockers passes a test, or none does
+one_passes : (test : Blocker → Bool) (room : BlockerRoom) (count at i : ℕ) → at ≤ i → i < at + count → test (blocker_at room i) ≡ true
+    → any test (blockers_from room count at) ≡ true
+unfolding any blockers_from
+one_passes test room zero at i l h e = absurd (omega arith)
+one_passes test room (suc count) at i l h e =
+    elim (ℕ_discrete i at) [ yes s ↦ or_first _ _ (rw s at e) | no n ↦ or_second _ _ (one_passes test room count (suc at) i (omega arith) (omega arith) e) ]
 
-abbrev first_found : List ℕ → List ℕ → List ℕ → ℕ → ℕ → Found
-first_found image masks levels below X = found_of (system_of image) X (first_from (extending image masks levels below X) (symbols_of image) 0)
+none_passes : (test : Blocker → Bool) (room : BlockerRoom) (count at : ℕ) → ((i : ℕ) → at ≤ i → i < at + count → test (blocker_at room i) ≡ false)
+    → any test (blockers_from room count at) ≡ false
+unfolding any blockers_from
+none_passes test room zero at none = refl
+none_passes test room (suc count) at none =
+    or_rest _ _ _ (none at (omega arith) (omega arith)) (none_passes test room count (suc at) (λ i l h. none i (omega arith) (omega arith)))
 
--- the search for the first symbol that qualifies, before symbol s: none was found, and the symbols from s on are left
-pub record SymbolsTried (image masks levels : List ℕ) (below X symbols s : ℕ) : Type 0 where
-  pub count : symbols ≡ symbols_of image
-  pub left : first_from (extending image masks levels below X) (symbols - s) s ≡ first_from (extending image masks levels below X) (symbols_of image) 0
+-- whether there is a reason, and whether the case is blocked
+module _ (initial : ℕ) (table : List Blocker) (below P : ℕ) where
+  bottom_blocked : eqb below 0 ≡ true → (r : Option Reason) → reason_of r ≡ absent_reason (lowest_absent initial P) → is_some r ≡ blocked initial table below P
+  unfolding why
+  bottom_blocked b r e =
+      reason_there r ∙ ap is_reason (e ∙ sym (rw (eqb-true below 0 b))) ∙ blocked_by_reason initial table below P
 
-pub tried_none : {image : List ℕ} {head : Head} {masks levels : List ℕ} {below X : ℕ} → ReadAs image head
-    → SymbolsTried image masks levels below X head.symbols 0
-tried_none {image} {head} {masks} {levels} {below} {X} read = record {
-  count = head_symbols read;
-  left = ap (λ (count : ℕ). first_from (extending image masks levels below X) count 0) (sub-zero head.symbols ∙ head_symbols read);
-}
+  above_blocked : eqb below 0 ≡ false → any (covers below P) table ≡ blocked initial table below P
+  unfolding blocked
+  above_blocked b = at below (eqb-false below 0 b)
+    where
+      at : (i : ℕ) → (i ≡ 0 → ⊥) → any (covers i P) table ≡ blocked initial table i P
+      at zero n = absurd (n refl)
+      at (suc i) n = refl
 
--- the walk over the blockers for one symbol, before place i; the walk leaves the symbol as it is
-pub record BlockersTried (masks levels : List ℕ) (below P symbol s i : ℕ) : Type 0 where
-  pub same : s ≡ symbol
-  pub walked : Walked masks levels (length masks) below P i
+-- what the search is to find
+abbrev pub first_found : List ℕ → List Blocker → ℕ → ℕ → Option (Symbol × ℕ)
+first_found image table below X = found_of (system_of image) X (first_from (qualifies (system_of image) table below X) (symbols_of image) 0)
 
-pub tried_starts : {masks levels : List ℕ} {below P s i : ℕ} → length masks ≡ length levels → Skips masks levels below P 0 i
-    → BlockersTried masks levels below P s s i
-tried_starts paired skips = record { same = refl; walked = walk_begins (omega arith) skips }
+-- before symbol s none was found, and the symbols from s on are left
+pub record SymbolsTried (image : List ℕ) (table : List Blocker) (below X symbols s : ℕ) : Type 0 where
+  pub left : first_from (qualifies (system_of image) table below X) (symbols - s) s
+      ≡ first_from (qualifies (system_of image) table below X) (symbols_of image) 0
 
-pub tried_goes : {masks levels : List ℕ} {below P symbol s i : ℕ} → BlockersTried masks levels below P symbol s i
-    → (here : Reason) (told : Bool) → i < length masks
-    → reason_of here ≡ first_covering below P i (blocker_at (unstamped_room masks levels) i ∷ []) → told ≡ is_reason (reason_of here) → told ≡ false
-    → BlockersTried masks levels below P symbol s (i + 1)
-tried_goes walk here told l e t f = record { same = walk.same; walked = walk_goes walk.walked here told l e t f }
-
-module _ {image masks levels : List ℕ} {below X symbols s : ℕ} (tried : SymbolsTried image masks levels below X symbols s) where
-  pub symbol_known : s < symbols → s < symbols_of image
-  symbol_known l = rw tried.count at l
-
-  pub tried_all : symbols ≤ s → Nothing ≡ first_found image masks levels below X
+module _ {image : List ℕ} {table : List Blocker} {below X symbols s : ℕ} (tried : SymbolsTried image table below X symbols s) where
+  pub tried_all : symbols ≤ s → None ≡ first_found image table below X
   unfolding found_of
-  tried_all l = sym (rw (← tried.left, first_from_nowhere (extending image masks levels below X) symbols s l))
+  tried_all l = sym (rw (← tried.left, first_from_nowhere (qualifies (system_of image) table below X) symbols s l))
 
   module _ (P : ℕ) (l : s < symbols) (back : P ≡ backward (rows_of image s) X) where
-    by_settled : (b : Bool) → b ≡ settled (initial_of image) (blockers_in masks levels) below X P → extending image masks levels below X s ≡ neg b
-    unfolding qualifies
-    by_settled b e = rw (← back, ← e)
+    goes : subset P X or blocked (initial_of image) table below P ≡ true → SymbolsTried image table below X symbols (s + 1)
+    unfolding neg qualifies settled
+    goes e = record { left = sym (first_from_later (qualifies (system_of image) table below X) symbols s l (rw (← back, e))) ∙ tried.left }
 
-    goes : true ≡ settled (initial_of image) (blockers_in masks levels) below X P → SymbolsTried image masks levels below X symbols (s + 1)
-    unfolding neg
-    goes e = record {
-      count = tried.count;
-      left = sym (first_from_later (extending image masks levels below X) symbols s l (by_settled true e)) ∙ tried.left;
-    }
-
-    finds : false ≡ settled (initial_of image) (blockers_in masks levels) below X P → At (record { 0 = s }) P ≡ first_found image masks levels below X
-    unfolding found_of neg
-    finds e = sym (rw (← tried.left, first_from_here (extending image masks levels below X) symbols s l (by_settled false e), back))
+    finds : subset P X or blocked (initial_of image) table below P ≡ false → Some (record { 0 = s }, P) ≡ first_found image table below X
+    unfolding found_of neg qualifies settled
+    finds e = sym (rw (← tried.left, first_from_here (qualifies (system_of image) table below X) symbols s l (rw (← back, e)), back))
 
     module _ (inside : Bool) (test : inside ≡ subset P X) where
-      pub try_inside : inside ≡ true → SymbolsTried image masks levels below X symbols (s + 1)
-      try_inside t = goes (settled_inside _ _ _ _ _ inside test t)
+      pub try_inside : inside ≡ true → SymbolsTried image table below X symbols (s + 1)
+      try_inside t = goes (or_first _ _ (sym test ∙ t))
 
-      module _ {head : Head} (read : ReadAs image head) (outside : inside ≡ false) (bottom : Bool) (at_bottom : bottom ≡ eqb below 0) where
-        -- by the reason why the backward set is blocked, where it is not inside X
-        by_reason : (r : Reason) (told : Bool) → reason_of r ≡ why head.initial (blockers_in masks levels) below P → told ≡ is_reason (reason_of r)
-            → told ≡ settled (initial_of image) (blockers_in masks levels) below X P
-        by_reason r told e t =
-            settled_told head.initial (blockers_in masks levels) below X P inside test r told e t outside
-            ∙ ap (λ (I : ℕ). settled I (blockers_in masks levels) below X P) (head_initial read)
+      module _ (outside : inside ≡ false) {head : Head} (read : ReadAs image head) (bottom : Bool) (at_bottom : bottom ≡ eqb below 0) where
+        module _ (low : bottom ≡ true) (r : Option Reason) (start : reason_of r ≡ absent_reason (lowest_absent head.initial P)) (told : Bool)
+            (tells : told ≡ is_some r) where
+          by_initial : blocked (initial_of image) table below P ≡ told
+          by_initial =
+              rw (← head_initial read) (sym (tells ∙ bottom_blocked head.initial table below P (sym at_bottom ∙ low) r start))
 
-        module _ (r : Reason) (told : Bool) (low : bottom ≡ true) (start : reason_of r ≡ absent_reason (lowest_absent head.initial P))
-            (tells : told ≡ is_reason (reason_of r)) where
-          by_initial : told ≡ settled (initial_of image) (blockers_in masks levels) below X P
-          by_initial = by_reason r told (why_bottom head.initial (blockers_in masks levels) below P bottom at_bottom r low start) tells
+          pub try_lacking : told ≡ true → SymbolsTried image table below X symbols (s + 1)
+          try_lacking t = goes (or_second _ _ (by_initial ∙ t))
 
-          pub try_lacking : told ≡ true → SymbolsTried image masks levels below X symbols (s + 1)
-          try_lacking t = goes (sym t ∙ by_initial)
+          pub find_bottom : told ≡ false → Some (record { 0 = s }, P) ≡ first_found image table below X
+          find_bottom f = finds (or_rest _ _ _ (sym test ∙ outside) (by_initial ∙ f))
 
-          pub find_bottom : told ≡ false → At (record { 0 = s }) P ≡ first_found image masks levels below X
-          find_bottom f = finds (sym f ∙ by_initial)
+-- the walk over the blockers for one symbol, before place i: none before it covers the backward set
+pub skips_on : {masks levels : List ℕ} {below P i : ℕ} (b : Bool) (here : Option Reason) → Skips masks levels below P 0 i → i < length masks
+    → length masks ≡ length levels → reason_of here ≡ first_covering below P i (blocker_at (unstamped_room masks levels) i ∷ []) → b ≡ is_some here
+    → b ≡ false → Skips masks levels below P 0 (i + 1)
+skips_on {masks} {levels} {below} {P} {i} b here skips l paired r e f =
+    record { begins = omega arith; few = omega arith; missed = λ k a h. by k h (ℕ_discrete k i) }
+  where
+    by : (k : ℕ) → k < i + 1 → Dec (k ≡ i) → covers below P (blocker_at (unstamped_room masks levels) k) ≡ false
+    by k h (yes s) = rw s (one_told below P i _ here b r e ∙ f)
+    by k h (no n) = skips.missed k (omega arith) (omega arith)
 
-        module _ {now i : ℕ} (walk : BlockersTried masks levels below P s now i) (high : bottom ≡ false) where
-          by_blockers : (r : Reason) (told : Bool) → reason_of r ≡ first_covering below P 0 (blockers_in masks levels) → told ≡ is_reason (reason_of r)
-              → told ≡ settled (initial_of image) (blockers_in masks levels) below X P
-          by_blockers r told e = by_reason r told (why_above head.initial (blockers_in masks levels) below P bottom at_bottom r high e)
+module _ {image : List ℕ} (masks levels : List ℕ) {below X symbols s : ℕ} (tried : SymbolsTried image (blockers_in masks levels) below X symbols s) (P : ℕ)
+    (l : s < symbols) (back : P ≡ backward (rows_of image s) X) (inside : Bool) (test : inside ≡ subset P X) (outside : inside ≡ false) (bottom : Bool)
+    (at_bottom : bottom ≡ eqb below 0) (high : bottom ≡ false) (paired : length masks ≡ length levels) (i : ℕ) where
+  pub try_covered : (b : Bool) (here : Option Reason) → i < length masks
+      → reason_of here ≡ first_covering below P i (blocker_at (unstamped_room masks levels) i ∷ []) → b ≡ is_some here → b ≡ true
+      → SymbolsTried image (blockers_in masks levels) below X symbols (s + 1)
+  try_covered b here h r e t =
+      goes tried P l back
+      (or_second _ _
+      (sym (above_blocked (initial_of image) (blockers_in masks levels) below P (sym at_bottom ∙ high))
+      ∙ one_passes (covers below P) (unstamped_room masks levels) (min (length masks) (length levels)) 0 i (omega arith) (omega arith) (one_told below P i _ here b r e ∙ t)))
 
-          pub try_covered : (here : Reason) (told : Bool) → i < length masks
-              → reason_of here ≡ first_covering below P i (blocker_at (unstamped_room masks levels) i ∷ []) → told ≡ is_reason (reason_of here) → told ≡ true
-              → SymbolsTried image masks levels below X symbols (now + 1)
-          try_covered here told h e t y =
-              rw walk.same (goes (sym y ∙ by_blockers here told (walk_finds walk.walked here told h e t y) t))
-
-          pub find_open : length masks ≤ i → At (record { 0 = s }) P ≡ first_found image masks levels below X
-          unfolding reason_of is_reason
-          find_open h = finds (by_blockers NoReason false (walk_ends walk.walked h) refl)
+  pub find_open : Skips masks levels below P 0 i → length masks ≤ i
+      → Some (record { 0 = s }, P) ≡ first_found image (blockers_in masks levels) below X
+  find_open skips h =
+      finds tried P l back
+      (or_rest _ _ _ (sym test ∙ outside)
+      (sym (above_blocked (initial_of image) (blockers_in masks levels) below P (sym at_bottom ∙ high))
+      ∙ none_passes (covers below P) (unstamped_room masks levels) (min (length masks) (length levels)) 0 (λ k a b. skips.missed k a (omega arith))))

@@ -1,19 +1,19 @@
 -- What stands in the room once those that sank have closed up. Assumes nothing.
-use Prim.Native.Nat.{ℕ, ◌-◌, ◌≤◌, ◌<◌, max}
-use mathlib.Core.Path.{◌≡◌, refl, sym, ap, ◌∙◌}
-use mathlib.Core.Bool.{Bool, true, false, not}
+use Prim.Native.Nat.{ℕ, zero, suc, ◌+◌, ◌-◌, ◌≤◌, ◌<◌, max}
+use mathlib.Core.Path.{◌≡◌, refl, sym, ap, subst, ◌∙◌}
+use mathlib.Core.Bool.{Bool, true, false}
 use mathlib.Core.List.{List, [], ◌∷◌, ◌++◌}
 use native.Mathlib.Omega.{arith}
-use borrow.Author.Tests.{eqb-false, not-false, lt-ltb}
+use borrow.Author.Tests.{eqb-false, lt-ltb}
 use lib.Dec.{eqb}
 use lib.ListN.{length, take, drop, replicate}
-use lib.Seq.{length-take-le}
+use lib.Seq.{get_or-take, length-take-le}
 use Rattle.lists.specs.Tests.{neg, ◌or◌, choose}
 use Rattle.lists.specs.Lists.{any, keep}
 use Rattle.lists.proofs.Tests.{fails}
 use Rattle.machine.specs.System.{System}
 use Rattle.machine.specs.Machine.{Blocker, none_at, frame}
-use Rattle.machine.specs.Lent.{BlockerRoom, room_of, column, mask_of, level_of, entered_of, placed, with_table}
+use Rattle.machine.specs.Lent.{BlockerRoom, room_of, blockers_from, column, mask_of, level_of, entered_of, placed, with_table}
 use Rattle.machine.proofs.LentTables.{column_length}
 use Rattle.blockers.specs.Room.{HoldsRoom, table_of, Frames}
 use Rattle.blockers.proofs.Parts.{part_none_at}
@@ -37,15 +37,19 @@ frame_whole (b ∷ table) e = at (eqb b.level 0) refl (λ f. frame_whole table f
         positive : (n : ℕ) → (n ≡ 0 → ⊥) → 0 < n
         positive n f = omega arith
 
--- what the code says of level 0: nothing where few blockers are held, else by a search
-pub none_said : {held : ℕ} {levels : List ℕ} → NoneLeft held levels false
-none_said = record { none = λ e. absurd (fails (sym e) tt) }
+-- the blockers in use are read from the masks in use
+masks_part : (held : ℕ) (masks levels entered : List ℕ) (count at : ℕ) → at + count ≤ held
+    → blockers_from (room_of (take held masks) levels entered) count at ≡ blockers_from (room_of masks levels entered) count at
+unfolding blockers_from
+masks_part held masks levels entered zero at h = refl
+masks_part held masks levels entered (suc count) at h =
+    rw (get_or-take held masks at 0 (omega arith), masks_part held masks levels entered count (suc at) (omega arith))
 
-pub none_left : {held : ℕ} {levels : List ℕ} {b : Bool} → b ≡ neg (any (λ other. eqb other 0) (take held levels)) → NoneLeft held levels b
-none_left e = record { none = λ t. sym e ∙ t }
-
-pub part_length : (held : ℕ) (levels : List ℕ) → held ≤ length levels → held ≡ length (take held levels)
-part_length held levels l = sym (length-take-le held levels l)
+table_part : (held : ℕ) (masks levels entered : List ℕ) → held ≤ length masks
+    → table_of (length (take held masks)) (room_of (take held masks) levels entered) ≡ table_of held (room_of masks levels entered)
+table_part held masks levels entered l =
+    ap (λ (count : ℕ). table_of count (room_of (take held masks) levels entered)) (length-take-le held masks l)
+    ∙ masks_part held masks levels entered held 0 (omega arith)
 
 -- what closes up behind the table's end goes by what stands there alone
 placed_behind : (old : ℕ) (new before other : List ℕ) → length new ≤ old → drop old before ≡ drop old other → placed old new before ≡ placed old new other
@@ -56,26 +60,45 @@ placed_behind old new before other l e =
 
 -- the rises, and what sank has closed up: the room is as the rises of 01 leave it
 pub all_become : {S : System} {top held : ℕ} {masks levels levels' entered : List ℕ} {count : ℕ} {room : BlockerRoom}
-    → AllRisen S top held masks levels levels' → Frames held 0 (room_of masks levels' entered) count room
-    → {told : Bool} → NoneLeft held levels told → not told ≡ false → HoldsRoom held (room_of masks levels entered)
+    → AllRisen S top (length (take held masks)) (take held masks) levels levels' → {masks' : List ℕ} → masks' ≡ masks
+    → Frames held 0 (room_of masks' levels' entered) count room
+    → {used : List ℕ} {told : Bool} → NoneLeft used told → told ≡ true → used ≡ take held levels → HoldsRoom held (room_of masks levels entered)
     → Becomes held (risen_by S top (table_of held (room_of masks levels entered))) (room_of masks levels entered) count room
 unfolding with_table none_at
-all_become {S} {top} {held} {masks} {levels} {levels'} {entered} {count} {room} risen framed {told} none t holds =
-    let whole : frame 0 (table_of held (room_of masks levels entered)) ≡ table_of held (room_of masks levels entered) =
-    frame_whole _ (part_none_at held (room_of masks levels entered) 0 holds.read.in_levels ∙ none.none (not-false told t)) in
-    let table : frame 0 (table_of held (room_of masks levels' entered)) ≡ risen_by S top (table_of held (room_of masks levels entered)) =
-    risen.table entered ∙ ap (λ (t : List Blocker). risen_by S top t) whole in
-    let short : length (column level_of (frame 0 (table_of held (room_of masks levels' entered)))) ≤ held =
-    omega (arith, column_length level_of (frame 0 (table_of held (room_of masks levels' entered))), framed.count, framed.few) in
-    record {
-      count = framed.count ∙ ap length table;
-      tables = framed.tables
-          ∙ ap (λ (l : List ℕ). record {
-            masks = placed held (column mask_of (frame 0 (table_of held (room_of masks levels' entered)))) masks;
-            levels = l;
-            entered = placed held (column entered_of (frame 0 (table_of held (room_of masks levels' entered)))) entered;
-          })
-          (placed_behind held (column level_of (frame 0 (table_of held (room_of masks levels' entered)))) levels' levels short risen.behind)
-          ∙ ap (λ (t : List Blocker). with_table held t (room_of masks levels entered)) table;
-      few = framed.few;
-    }
+all_become {S} {top} {held} {masks} {levels} {levels'} {entered} {count} {room} risen {masks'} same framed none t part holds =
+    become (subst (λ (m : List ℕ). Frames held 0 (room_of m levels' entered) count room) same framed)
+  where
+    now : table_of (length (take held masks)) (room_of (take held masks) levels' entered) ≡ table_of held (room_of masks levels' entered)
+    now = table_part held masks levels' entered holds.read.in_masks
+
+    whole : frame 0 (table_of held (room_of masks levels entered)) ≡ table_of held (room_of masks levels entered)
+    whole =
+        frame_whole _ (part_none_at held (room_of masks levels entered) 0 holds.read.in_levels
+        ∙ ap (λ (l : List ℕ). neg (any (λ other. eqb other 0) l)) (sym part) ∙ none.none t)
+
+    table : frame 0 (table_of held (room_of masks levels' entered)) ≡ risen_by S top (table_of held (room_of masks levels entered))
+    table =
+        ap (frame 0) (sym now) ∙ risen.table entered
+        ∙ ap (λ (l : List Blocker). risen_by S top (frame 0 l)) (table_part held masks levels entered holds.read.in_masks)
+        ∙ ap (λ (l : List Blocker). risen_by S top l) whole
+
+    behind : drop held levels' ≡ drop held levels
+    behind = subst (λ (n : ℕ). drop n levels' ≡ drop n levels) (length-take-le held masks holds.read.in_masks) risen.behind
+
+    become : Frames held 0 (room_of masks levels' entered) count room
+        → Becomes held (risen_by S top (table_of held (room_of masks levels entered))) (room_of masks levels entered) count room
+    become frames =
+        let short : length (column level_of (frame 0 (table_of held (room_of masks levels' entered)))) ≤ held =
+        omega (arith, column_length level_of (frame 0 (table_of held (room_of masks levels' entered))), frames.count, frames.few) in
+        record {
+          count = frames.count ∙ ap length table;
+          tables = frames.tables
+              ∙ ap (λ (l : List ℕ). record {
+                masks = placed held (column mask_of (frame 0 (table_of held (room_of masks levels' entered)))) masks;
+                levels = l;
+                entered = placed held (column entered_of (frame 0 (table_of held (room_of masks levels' entered)))) entered;
+              })
+              (placed_behind held (column level_of (frame 0 (table_of held (room_of masks levels' entered)))) levels' levels short behind)
+              ∙ ap (λ (t : List Blocker). with_table held t (room_of masks levels entered)) table;
+          few = frames.few;
+        }

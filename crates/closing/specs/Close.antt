@@ -1,24 +1,24 @@
 -- What a close makes of the blockers. Assumes nothing: these are definitions.
 use Rattle.std.specs.Prelude.{ℕ, ◌≤◌, ◌≡◌, Bool, true, false, List, length}
+use Rattle.std.specs.Prelude as Std
 use Rattle.std.proofs.Math.Option.{Option, none, some}
 use Rattle.lists.specs.Lists.{first_from}
 use Rattle.machine.specs.System.{System}
 use Rattle.machine.specs.Machine.{Blocker, none_at, frame}
 use Rattle.machine.specs.Lent.{BlockerRoom, with_table}
 use Rattle.blockers.specs.Room.{table_of}
+use Rattle.blockers.specs.declared.Level.{Level}
 use Rattle.rising.specs.Risen.{risen_by}
-use Rattle.closing.specs.declared.Lowest.{Lowest}
-use Rattle.closing.specs.declared.Lowest.TheVariants.{At, Nothing}
 use Rattle.closing.specs.declared.Closed.{Closed}
 
 -- the lowest level from 1 to `top` that holds no blocker
 unfoldable pub lowest_none : List Blocker → ℕ → Option ℕ
 lowest_none table top = first_from (none_at table) top 1
 
--- that level, or that there is none
-unfoldable pub lowest_of : Option ℕ → Lowest
-lowest_of none = Nothing
-lowest_of (some j) = At (record { 0 = j })
+-- the level that was found, or none, as the machine has it
+unfoldable pub level_of : Std.Option Level → Option ℕ
+level_of Std.None = none
+level_of (Std.Some level) = some level.0
 
 -- the frame above that level, or the whole table where there is none
 unfoldable pub kept_by : List Blocker → Option ℕ → List Blocker

@@ -1,73 +1,33 @@
 -- The covers of a backward set, listed: a list with one mask more, the walk over the blockers that lists them, and the search of the list. Assumes nothing.
+use Rattle.std.specs.List.{list_any}
+use Rattle.std.specs.Slice.{IsGetRangeResult}
+use denote.Ref.{Bor}
+use Rattle.std.specs.Prelude.{slice_range, option_copied, unwrap_or, ⊤, ◌||◌, Option, Some, None, is_some}
 use Prim.Native.Nat.{ℕ, zero, suc, ◌+◌, ◌-◌, ◌≤◌, ◌<◌, min}
-use mathlib.Core.Path.{◌≡◌, refl, sym, ap, subst, ◌∙◌}
+use mathlib.Core.Path.{◌≡◌, refl, sym, ap, ap₂, subst, ◌∙◌}
 use mathlib.Core.Bool.{Bool, true, false, not}
-use mathlib.Core.List.{List, [], ◌∷◌}
+use mathlib.Core.List.{List, [], ◌∷◌, ◌++◌}
+use mathlib.Core.Logic.{◌⊎◌, inl, inr}
 use native.Mathlib.Nat.{sub-zero}
 use native.Mathlib.Omega.{arith}
-use borrow.Author.Tests.{not-true, not-false}
+use borrow.Author.Tests.{leb-true, le-leb}
 use lib.Dec.{T, leb}
-use lib.ListN.{length, get_or, set}
-use lib.Seq.{get_or-set_same, get_or-set_other}
-use Rattle.lists.specs.Tests.{◌and◌, ◌or◌}
+use lib.ListN.{length, get_or, set, take, drop, length-drop, length-take}
+use lib.Seq.{get_or-set_other, take-suc-set}
+use Rattle.std.proofs.lemmas.List.{ext_get_or, get_or-take, get_or-drop, drop-set-add, take-set-le}
+use Rattle.lists.specs.Tests.{◌and◌, ◌or◌, choose}
 use Rattle.lists.specs.Lists.{any}
-use Rattle.lists.proofs.Tests.{holds, fails, is_true, is_false, and_left, and_right, and_both, or_left, or_joined, or_none}
+use Rattle.lists.proofs.Tests.{holds, fails, is_true, is_false, and_left, and_right, and_both, or_joined, or_none, choose_true, choose_false}
+use Rattle.lists.proofs.Lists.{any_append}
 use Rattle.masks.specs.Sets.{subset}
 use Rattle.masks.proofs.Laws.{subset_transitive}
 use Rattle.machine.specs.Machine.{Blocker, covers, blocked, settled}
 use Rattle.machine.specs.Lent.{BlockerRoom, blocker_at, unstamped_room, blockers_from, blockers_in}
-use Rattle.machine.specs.Why.{first_covering, is_reason}
-use Rattle.blockers.specs.Answers.{reason_of}
+use Rattle.machine.specs.Why.{first_covering}
+use Rattle.blockers.specs.Answers.{reason_of, Skips}
 use Rattle.blockers.specs.declared.reasons.Reason.{Reason}
-use Rattle.blockers.specs.Answers.{Skips}
 use Rattle.blockers.proofs.Walks.{next_blocker, no_blocker, one_told}
-use Rattle.covering.specs.Listed.{one_holds, ListedOne, Listed}
-
--- a list that is the same up to its end holds the same
-pub one_same : (near other : List ℕ) (from count case : ℕ) → ((j : ℕ) → from ≤ j → j < from + count → get_or other j 0 ≡ get_or near j 0)
-    → one_holds other from count case ≡ one_holds near from count case
-unfolding one_holds
-one_same near other from zero case same = refl
-one_same near other from (suc count) case same =
-    let before = one_same near other from count case (λ j l h. same j l (omega arith)) in
-    rw (before, same (from + count) (omega arith) (omega arith))
-
--- what one of the first masks contains, one of more masks contains
-one_stays : (near : List ℕ) (from case count more : ℕ) → T (one_holds near from count case) → T (one_holds near from (count + more) case)
-unfolding one_holds
-one_stays near from case count zero t = let e : count + 0 ≡ count = omega arith in rw e t
-one_stays near from case count (suc more) t =
-    let e : count + suc more ≡ suc (count + more) = omega arith in rw e (or_left _ _ (one_stays near from case count more t))
-
--- the search of the list, before place i
-pub record Searching (near : List ℕ) (from to case i : ℕ) : Type 0 where
-  pub low : from ≤ i
-  pub high : i - from ≤ to - from
-  pub missed : one_holds near from (i - from) case ≡ false
-
-pub search_starts : (near : List ℕ) (from to case : ℕ) → Searching near from to case from
-unfolding one_holds
-search_starts near from to case = let e : from - from ≡ 0 = omega arith in record { low = omega arith; high = omega arith; missed = rw e refl }
-
-module _ {near : List ℕ} {from to case i : ℕ} (so_far : Searching near from to case i) (contains : Bool) (test : contains ≡ subset case (get_or near i 0)) where
-  one_further : one_holds near from (i + 1 - from) case ≡ contains
-  unfolding one_holds ◌or◌
-  one_further =
-      let e : i + 1 - from ≡ suc (i - from) = omega (arith, so_far.low) in
-      let here : from + (i - from) ≡ i = omega (arith, so_far.low) in
-      rw (e, so_far.missed, here) (sym test)
-
-  pub search_finds : i < to → contains ≡ true → true ≡ one_holds near from (to - from) case
-  search_finds l t =
-      let e : i + 1 - from + (to - (i + 1)) ≡ to - from = omega (arith, so_far.low) in
-      sym (is_true _ (subst (λ (count : ℕ). T (one_holds near from count case)) e (one_stays near from case (i + 1 - from) (to - (i + 1)) (holds (one_further ∙ t)))))
-
-  pub search_goes : i < to → contains ≡ false → Searching near from to case (i + 1)
-  search_goes l f = record { low = omega (arith, so_far.low); high = omega (arith, so_far.low); missed = one_further ∙ f }
-
-pub search_ends : {near : List ℕ} {from to case i : ℕ} → Searching near from to case i → to ≤ i → false ≡ one_holds near from (to - from) case
-search_ends {near} {from} {to} {case} {i} so_far l =
-    let e : i - from ≡ to - from = omega (arith, so_far.high) in sym (ap (λ (count : ℕ). one_holds near from count case) (sym e) ∙ so_far.missed)
+use Rattle.covering.specs.Listed.{one_holds, part, UpTo, in_order, nowhere, ListedOne, Listed}
 
 -- what does not cover a case does not cover a larger one; and what covers it covers a larger one if that is a subset of its mask
 module _ (below P case : ℕ) (larger : T (subset P case)) (blocker : Blocker) where
@@ -80,56 +40,164 @@ module _ (below P case : ℕ) (larger : T (subset P case)) (blocker : Blocker) w
   unfolding covers ◌and◌
   by_mask t = let e : leb below blocker.level ≡ true = is_true _ (and_left (leb below blocker.level) (subset P blocker.mask) (holds t)) in rw e refl
 
--- one blocker, by the reason that it is
-module _ (masks levels : List ℕ) (below P : ℕ) (near : List ℕ) (end place : ℕ) (r : Reason) (told : Bool)
-    (is : reason_of r ≡ first_covering below P place (blocker_at (unstamped_room masks levels) place ∷ [])) (tells : told ≡ is_reason (reason_of r)) where
-  covering : covers below P (blocker_at (unstamped_room masks levels) place) ≡ told
-  covering = one_told below P place (blocker_at (unstamped_room masks levels) place) r told is tells
+-- what a place says
+Placeless : {A : Type 0} → Option A → Type 0
+Placeless None = ⊤
+Placeless (Some at) = ⊥
 
-  module _ (l : end < length near) (narrow : length near < 65535) where
-    written : List ℕ
-    written = set near end (get_or masks place 0)
+no_place : {A : Type 0} {place : Option A} {at : A} → place ≡ None → place ≡ Some at → ⊥
+unfolding Placeless
+no_place n s = subst Placeless (sym n ∙ s) tt
 
-    before : (j : ℕ) → j < end → get_or written j 0 ≡ get_or near j 0
-    unfolding written
-    before j h = get_or-set_other near end j (get_or masks place 0) 0 (λ e. omega arith)
+place_is : {A : Type 0} {x y : A} → Some x ≡ Some y → x ≡ y
+place_is {A} {x} {y} e = ap (λ (place : Option A). unwrap_or place x) e
 
-    pub one_misses : not told ≡ true → ListedOne below P (blocker_at (unstamped_room masks levels) place) near (set near end (get_or masks place 0)) end end
-    unfolding written
-    one_misses n =
-        record {
-          low = omega arith;
-          narrow = omega arith;
-          kept = before;
-          holds = λ few from h case larger.
-              one_same near written from (end - from) case (λ j low high. before j (omega arith))
-              ∙ sym (ap (λ (b : Bool). one_holds near from (end - from) case or b) (still_misses below P case larger _ (covering ∙ not-true told n)) ∙ or_none _);
-        }
+up_to : {j from : ℕ} → UpTo (Some (suc j)) (Some from) → j < from
+up_to (in_order l) = l
 
-    pub one_joins : not told ≡ false
-        → ListedOne below P (blocker_at (unstamped_room masks levels) place) near (set near end (get_or masks place 0)) end (end + 1)
-    unfolding one_holds written
-    one_joins n =
-        record {
-          low = omega arith;
-          narrow = omega arith;
-          kept = before;
-          holds = λ few from h case larger.
-              let e : end + 1 - from ≡ suc (end - from) = omega arith in
-              let here : from + (end - from) ≡ end = omega arith in
-              rw (
-                e,
-                here,
-                get_or-set_same near end (get_or masks place 0) 0 l,
-                one_same near written from (end - from) case (λ j low high. before j (omega arith)),
-                by_mask below P case larger (blocker_at (unstamped_room masks levels) place) (covering ∙ not-false told n),
-              ) refl;
-        }
+-- a list that stands between two places
+part_is : (near : List ℕ) (from to : ℕ) {list : List ℕ} → part near (Some from) (Some to) ≡ Some list → list ≡ slice_range near from to
+unfolding part choose
+part_is near from to {list} e = at (leb from to and leb to (length near)) e
+  where
+    at : (b : Bool) → choose b (Some (slice_range near from to)) None ≡ Some list → list ≡ slice_range near from to
+    at true e = sym (place_is e)
+    at false e = absurd (no_place refl e)
 
--- a list that is full
-pub one_full : (below P : ℕ) (blocker : Blocker) (near : List ℕ) (end : ℕ) → length near < 65535 → end ≤ 65535 → ListedOne below P blocker near near end 65535
-one_full below P blocker near end narrow small =
-    record { low = small; narrow = omega arith; kept = λ j h. refl; holds = λ few. absurd (omega arith) }
+part_endless : (near : List ℕ) (from : Option ℕ) {list : List ℕ} → part near from None ≡ Some list → ⊥
+unfolding part
+part_endless near None e = no_place refl e
+part_endless near (Some from) e = no_place refl e
+
+part_unbegun : (near : List ℕ) (to : Option ℕ) → part near None to ≡ None
+unfolding part
+part_unbegun near to = refl
+
+part_unended : (near : List ℕ) (from : Option ℕ) → part near from None ≡ None
+unfolding part
+part_unended near None = refl
+part_unended near (Some from) = refl
+
+-- whether it stands there, by the two tests
+module _ (near : List ℕ) (from to : ℕ) where
+  stands : from ≤ to → to ≤ length near → part near (Some from) (Some to) ≡ Some (slice_range near from to)
+  unfolding part
+  stands l h = choose_true _ _ (is_true _ (and_both _ _ (holds (le-leb from to l)) (holds (le-leb to (length near) h))))
+
+  stands_nowhere : ((from ≤ to) → (to ≤ length near) → ⊥) → part near (Some from) (Some to) ≡ None
+  unfolding part
+  stands_nowhere n =
+      choose_false _ _
+      (is_false _ (λ t. n (leb-true from to (is_true _ (and_left _ _ t))) (leb-true to (length near) (is_true _ (and_right (leb from to) _ t)))))
+
+  -- and by what std says of it
+  found : (r : Option (Bor (List ℕ))) → IsGetRangeResult near from to r → option_copied r ≡ part near (Some from) (Some to)
+  found None is = sym (stands_nowhere (λ l h. by l h is.0))
+    where
+      by : from ≤ to → to ≤ length near → (to < from) ⊎ (length near < to) → ⊥
+      by l h (inl a) = omega arith
+      by l h (inr a) = omega arith
+  found (Some list) is = ap Some is.0.2 ∙ sym (stands is.0.0 is.0.1)
+
+module _ (near : List ℕ) (from to : Option ℕ) (r : Option (Bor (List ℕ))) where
+  pub listed_unbegun : from ≡ None → r ≡ None → option_copied r ≡ part near from to
+  listed_unbegun f e = rw (e, f) (sym (part_unbegun near to))
+
+  pub listed_unended : to ≡ None → r ≡ None → option_copied r ≡ part near from to
+  listed_unended t e = rw (e, t) (sym (part_unended near from))
+
+  pub listed_found : {start end : ℕ} → from ≡ Some start → to ≡ Some end → IsGetRangeResult near start end r → option_copied r ≡ part near from to
+  listed_found {start} {end} f t is = rw (f, t) (found near start end r is)
+
+-- a part of the table ends before the place that is written, or with it
+range_before : (near : List ℕ) (from end mask : ℕ) → from ≤ end → slice_range (set near end mask) from end ≡ slice_range near from end
+range_before near from end mask l =
+    let e : end ≡ from + (end - from) = omega arith in
+    subst (λ (at : ℕ). take (end - from) (drop from (set near at mask)) ≡ slice_range near from end) (sym e)
+    (ap (λ (l : List ℕ). take (end - from) l) (drop-set-add from near (end - from) mask) ∙ take-set-le (end - from) (drop from near) (end - from) mask (omega arith))
+
+range_more : (near : List ℕ) (from end mask : ℕ) → from ≤ end → end < length near
+    → slice_range (set near end mask) from (end + 1) ≡ slice_range near from end ++ mask ∷ []
+range_more near from end mask l few =
+    let e : end ≡ from + (end - from) = omega arith in
+    let one : end + 1 - from ≡ suc (end - from) = omega arith in
+    let long : length (drop from near) ≡ length near - from = length-drop from near in
+    rw one
+    (subst (λ (at : ℕ). take (suc (end - from)) (drop from (set near at mask)) ≡ slice_range near from end ++ mask ∷ []) (sym e)
+    (ap (λ (l : List ℕ). take (suc (end - from)) l) (drop-set-add from near (end - from) mask)
+    ∙ take-suc-set (drop from near) (end - from) mask (omega arith)))
+
+-- a part is the same where the table is, up to its end
+range_same : (near near' : List ℕ) (from to : ℕ) → length near' ≡ length near → ((j : ℕ) → j < to → get_or near' j 0 ≡ get_or near j 0)
+    → slice_range near' from to ≡ slice_range near from to
+range_same near near' from to long same =
+    ext_get_or 0 _ _ (omega (arith, length-range near', length-range near))
+    (λ i l. at near' i (omega (arith, length-range near')) ∙ same (from + i) (omega (arith, length-range near')) ∙ sym (at near i (omega (arith, length-range near'))))
+  where
+    length-range : (near : List ℕ) → length (slice_range near from to) ≡ min (to - from) (length near - from)
+    length-range near = length-take (to - from) (drop from near) ∙ ap (λ (n : ℕ). min (to - from) n) (length-drop from near)
+
+    at : (near : List ℕ) (i : ℕ) → i < to - from → get_or (slice_range near from to) i 0 ≡ get_or near (from + i) 0
+    at near i l = get_or-take (to - from) (drop from near) i 0 l ∙ get_or-drop from near i 0
+
+-- A list stays where only places behind it are written, and what is behind one place is behind those before it.
+pub part_kept : (near near' : List ℕ) (from to : Option ℕ) → length near' ≡ length near
+    → ((j : ℕ) → UpTo (Some (suc j)) to → get_or near' j 0 ≡ get_or near j 0) → part near' from to ≡ part near from to
+unfolding part
+part_kept near near' None to long same = part_unbegun near' to ∙ sym (part_unbegun near to)
+part_kept near near' (Some from) None long same = part_unended near' (Some from) ∙ sym (part_unended near (Some from))
+part_kept near near' (Some from) (Some to) long same =
+    ap₂ (λ (size : ℕ) (list : List ℕ). choose (leb from to and leb to size) (Some list) None) long (range_same near near' from to long (λ j l. same j (in_order l)))
+
+pub up_to_further : {from at to : Option ℕ} → UpTo from at → UpTo at to → UpTo from to
+up_to_further u nowhere = nowhere
+up_to_further (in_order a) (in_order b) = in_order (omega arith)
+
+-- one more blocker
+module _ (below P : ℕ) (blocker : Blocker) (near : List ℕ) (end : ℕ) where
+  pub one_full : {end' : Option ℕ} → end' ≡ None → ListedOne below P blocker near near end end'
+  one_full e = record { low = λ to i. absurd (no_place e i); kept = λ j h. refl; holds = λ to i. absurd (no_place e i) }
+
+  before : (j : ℕ) → j < end → get_or (set near end blocker.mask) j 0 ≡ get_or near j 0
+  before j h = get_or-set_other near end j blocker.mask 0 (λ e. omega arith)
+
+  module _ (place : ℕ) (here : Option Reason) (told : reason_of here ≡ first_covering below P place (blocker ∷ [])) (none : Bool)
+      (is : is_some here ≡ not none) (l : end < length near) where
+    covering : covers below P blocker ≡ not none
+    covering = one_told below P place blocker here (is_some here) told refl ∙ is
+
+    pub one_misses : none ≡ true → ListedOne below P blocker near (set near end blocker.mask) end (Some end)
+    one_misses n = record {
+      low = λ to i. omega (arith, place_is i);
+      kept = before;
+      holds = λ to i from h case larger.
+          rw (← place_is i)
+          (ap (λ (list : List ℕ). one_holds list case) (range_before near from end blocker.mask h)
+          ∙ sym (ap (λ (b : Bool). one_holds (slice_range near from end) case or b) (still_misses below P case larger blocker (covering ∙ ap not n)) ∙ or_none _));
+    }
+
+    pub one_joins : none ≡ false → ListedOne below P blocker near (set near end blocker.mask) end (Some (end + 1))
+    unfolding one_holds any
+    one_joins n = record {
+      low = λ to i. omega (arith, place_is i);
+      kept = before;
+      holds = λ to i from h case larger.
+          rw (← place_is i)
+          (ap (λ (list : List ℕ). any (subset case) list) (range_more near from end blocker.mask h l)
+          ∙ any_append (subset case) (slice_range near from end) (blocker.mask ∷ [])
+          ∙ ap (λ (b : Bool). any (subset case) (slice_range near from end) or b)
+          (or_none _ ∙ sym (by_mask below P case larger blocker (covering ∙ ap not n))));
+    }
+
+-- the search of a list by std's `any`
+pub one_of : (list : List ℕ) (case : ℕ) → list_any (subset case) list ≡ one_holds list case
+unfolding one_holds any ◌or◌
+one_of [] case = refl
+one_of (mask ∷ list) case = at (subset case mask) (one_of list case)
+  where
+    at : (b : Bool) → list_any (subset case) list ≡ any (subset case) list → b || list_any (subset case) list ≡ b or any (subset case) list
+    at true e = refl
+    at false e = e
 
 -- past blockers that do not pass a test
 any_past : (test : Blocker → Bool) (room : BlockerRoom) (held i count : ℕ) → i + count ≤ held → ((k : ℕ) → i ≤ k → k < i + count → test (blocker_at room k) ≡ false)
@@ -145,12 +213,9 @@ any_past test room held i (suc count) l none =
 pub record Listing (masks levels : List ℕ) (below P : ℕ) (before near : List ℕ) (from count i end : ℕ) : Type 0 where
   pub all : count ≡ min (length masks) (length levels)
   pub low : from ≤ end
-  pub small : end ≤ 65535
-  pub long : length near ≡ length before
-  pub narrow : length near < 65535
   pub kept : (j : ℕ) → j < from → get_or near j 0 ≡ get_or before j 0
-  pub left : end ≤ length near → (case : ℕ) → T (subset P case)
-      → one_holds near from (end - from) case or any (covers below case) (blockers_from (unstamped_room masks levels) (count - i) i)
+  pub left : (case : ℕ) → T (subset P case)
+      → one_holds (slice_range near from end) case or any (covers below case) (blockers_from (unstamped_room masks levels) (count - i) i)
       ≡ any (covers below case) (blockers_in masks levels)
 
 skips_on : {masks levels : List ℕ} {below P : ℕ} {before near : List ℕ} {from count i end r : ℕ} → Listing masks levels below P before near from count i end
@@ -159,67 +224,19 @@ skips_on {masks} {levels} {below} {P} {before} {near} {from} {count} {i} {end} {
     record {
       all = so_far.all;
       low = so_far.low;
-      small = so_far.small;
-      long = so_far.long;
-      narrow = so_far.narrow;
       kept = so_far.kept;
-      left = λ few case larger.
+      left = λ case larger.
           let whole : i + (r - i) ≡ r = omega (arith, skips.begins) in
-          ap (λ (b : Bool). one_holds near from (end - from) case or b)
+          ap (λ (b : Bool). one_holds (slice_range near from end) case or b)
           (sym (rw whole at (any_past (covers below case) (unstamped_room masks levels) count i (r - i) (omega (arith, so_far.all, skips.begins, skips.few))
           (λ k l h. still_misses below P case larger _ (skips.missed k l (omega (arith, whole)))))))
-          ∙ so_far.left few case larger;
+          ∙ so_far.left case larger;
     }
 
-module _ {masks levels : List ℕ} {below P : ℕ} {before near : List ℕ} {from count i end : ℕ} (so_far : Listing masks levels below P before near from count i end) where
-  pub listing_goes : {near' : List ℕ} {end' r : ℕ} → i < count → ListedOne below P (blocker_at (unstamped_room masks levels) i) near near' end end'
-      → length near' ≡ length near → Skips masks levels below P (i + 1) r → Listing masks levels below P before near' from count r end'
-  unfolding any
-  listing_goes {near'} {end'} l one long skips = skips_on one_more skips
-    where
-      one_more : Listing masks levels below P before near' from count (i + 1) end'
-      one_more =
-          record {
-            all = so_far.all;
-            low = omega (arith, so_far.low, one.low);
-            small = one.narrow;
-            long = long ∙ so_far.long;
-            narrow = omega (arith, long, so_far.narrow);
-            kept = λ j h. one.kept j (omega (arith, so_far.low)) ∙ so_far.kept j h;
-            left = λ few case larger.
-                let listed = one.holds few from so_far.low case larger in
-                let rest = so_far.left (omega (arith, one.low, long)) case larger in
-                ap (λ (b : Bool). b or any (covers below case) (blockers_from (unstamped_room masks levels) (count - (i + 1)) (i + 1))) listed
-                ∙ sym (or_joined _ _ _)
-                ∙ ap (λ (table : List Blocker). one_holds near from (end - from) case or any (covers below case) table) (sym (next_blocker (unstamped_room masks levels) count i l))
-                ∙ rest;
-          }
-
-  pub listing_full : {near' : List ℕ} {end' : ℕ} → ListedOne below P (blocker_at (unstamped_room masks levels) i) near near' end end' → length near' < end'
-      → Listed (blockers_in masks levels) below P before near' from end'
-  listing_full one l =
-      record {
-        low = omega (arith, so_far.low, one.low);
-        kept = λ j h. one.kept j (omega (arith, so_far.low)) ∙ so_far.kept j h;
-        holds = λ few. absurd (omega arith);
-      }
-
-  pub listing_ends : count ≤ i → Listed (blockers_in masks levels) below P before near from end
-  unfolding any
-  listing_ends l =
-      record {
-        low = so_far.low;
-        kept = so_far.kept;
-        holds = λ few case larger.
-            sym (or_none _)
-            ∙ ap (λ (table : List Blocker). one_holds near from (end - from) case or any (covers below case) table) (sym (no_blocker (unstamped_room masks levels) count i l))
-            ∙ so_far.left few case larger;
-      }
-
 pub listing_starts : {masks levels : List ℕ} {below P count : ℕ} {near : List ℕ} {from r : ℕ} → count ≡ min (length masks) (length levels)
-    → from ≤ length near → length near < 65535 → Skips masks levels below P 0 r → Listing masks levels below P near near from count r from
-unfolding one_holds ◌or◌
-listing_starts {masks} {levels} {below} {P} {count} {near} {from} all l narrow skips = skips_on none skips
+    → Skips masks levels below P 0 r → Listing masks levels below P near near from count r from
+unfolding one_holds any ◌or◌
+listing_starts {masks} {levels} {below} {P} {count} {near} {from} all skips = skips_on none skips
   where
     none : Listing masks levels below P near near from count 0 from
     none =
@@ -227,20 +244,70 @@ listing_starts {masks} {levels} {below} {P} {count} {near} {from} all l narrow s
         record {
           all = all;
           low = omega arith;
-          small = omega arith;
-          long = refl;
-          narrow = narrow;
           kept = λ j k. refl;
-          left = λ few case larger. rw (zeroth, sub-zero count, all) refl;
+          left = λ case larger. rw (zeroth, sub-zero count, all) refl;
         }
+
+module _ {masks levels : List ℕ} {below P : ℕ} {before near : List ℕ} {from count i end : ℕ} (so_far : Listing masks levels below P before near from count i end) where
+  module _ {near' : List ℕ} {end' : Option ℕ} (one : ListedOne below P (blocker_at (unstamped_room masks levels) i) near near' end end') where
+    kept_on : (j : ℕ) → j < from → get_or near' j 0 ≡ get_or before j 0
+    kept_on j h = one.kept j (omega (arith, so_far.low)) ∙ so_far.kept j h
+
+    pub listing_goes : {next r : ℕ} → i < count → end' ≡ Some next → Skips masks levels below P (i + 1) r
+        → Listing masks levels below P before near' from count r next
+    unfolding any
+    listing_goes {next} l is skips = skips_on one_more skips
+      where
+        one_more : Listing masks levels below P before near' from count (i + 1) next
+        one_more =
+            record {
+              all = so_far.all;
+              low = omega (arith, so_far.low, one.low next is);
+              kept = kept_on;
+              left = λ case larger.
+                  ap (λ (b : Bool). b or any (covers below case) (blockers_from (unstamped_room masks levels) (count - (i + 1)) (i + 1)))
+                  (one.holds next is from so_far.low case larger)
+                  ∙ sym (or_joined _ _ _)
+                  ∙ ap (λ (table : List Blocker). one_holds (slice_range near from end) case or any (covers below case) table)
+                  (sym (next_blocker (unstamped_room masks levels) count i l))
+                  ∙ so_far.left case larger;
+            }
+
+    pub listing_full : {start r : Option ℕ} → start ≡ Some from → r ≡ None → Listed (blockers_in masks levels) below P before near' start r
+    listing_full {start} {r} begun none = by_start begun (by_end none)
+      where
+        by_end : r ≡ None → Listed (blockers_in masks levels) below P before near' (Some from) r
+        by_end e = subst (λ (r : Option ℕ). Listed (blockers_in masks levels) below P before near' (Some from) r) (sym e)
+            record { low = nowhere; kept = λ j u. kept_on j (up_to u); holds = λ list i. absurd (part_endless near' (Some from) i) }
+
+        by_start : start ≡ Some from → Listed (blockers_in masks levels) below P before near' (Some from) r
+            → Listed (blockers_in masks levels) below P before near' start r
+        by_start e listed = subst (λ (start : Option ℕ). Listed (blockers_in masks levels) below P before near' start r) (sym e) listed
+
+  pub listing_ends : {start : Option ℕ} → start ≡ Some from → count ≤ i → Listed (blockers_in masks levels) below P before near start (Some end)
+  unfolding any
+  listing_ends {start} begun l =
+      subst (λ (start : Option ℕ). Listed (blockers_in masks levels) below P before near start (Some end)) (sym begun)
+      record {
+        low = in_order so_far.low;
+        kept = λ j u. so_far.kept j (up_to u);
+        holds = λ list is case larger.
+            ap (λ (list : List ℕ). one_holds list case) (part_is near from end is)
+            ∙ sym (or_none _)
+            ∙ ap (λ (table : List Blocker). one_holds (slice_range near from end) case or any (covers below case) table)
+            (sym (no_blocker (unstamped_room masks levels) count i l))
+            ∙ so_far.left case larger;
+      }
+
+-- where there is no place to start
+pub list_nowhere : (table : List Blocker) (below P : ℕ) (near : List ℕ) (start r : Option ℕ) → start ≡ None → r ≡ None → Listed table below P near near start r
+list_nowhere table below P near start r s e =
+    subst (λ (r : Option ℕ). Listed table below P near near start r) (sym e)
+    record { low = nowhere; kept = λ j u. refl; holds = λ list is. absurd (part_endless near start is) }
 
 -- whether a case is settled, by the list of what can cover it
 module _ (initial : ℕ) (table : List Blocker) (below Y case : ℕ) (inside : Bool) (test : inside ≡ subset case Y) (outside : inside ≡ false) where
-  pub settled_listed : (near : List ℕ) (from to : ℕ) (r : Bool) → r ≡ one_holds near from (to - from) case
-      → (to ≤ length near → one_holds near from (to - from) case ≡ blocked initial table below case) → to ≤ length near → r ≡ settled initial table below Y case
+  pub settled_listed : (list : List ℕ) (r : Bool) → r ≡ one_holds list case → one_holds list case ≡ blocked initial table below case
+      → r ≡ settled initial table below Y case
   unfolding settled ◌or◌
-  settled_listed near from to r e tells l = e ∙ tells l ∙ sym (rw (← test, outside))
-
--- a list that found no place stays so
-pub list_skipped : (table : List Blocker) (below P : ℕ) (near : List ℕ) (from : ℕ) → length near < from → Listed table below P near near from from
-list_skipped table below P near from l = record { low = omega arith; kept = λ j k. refl; holds = λ h. absurd (omega arith) }
+  settled_listed list r e tells = e ∙ tells ∙ sym (rw (← test, outside))

@@ -2,60 +2,61 @@
 // Proved of it is which bytes it makes of those that it has read (`report`); that it reads and writes them is tried by running.
 #![tactic(auto)]
 
-ghost use Rattle.std.specs.Prelude.{◌≡◌, ◌≤◌, ◌<◌, length, take, IfOk};
+ghost use Rattle.std.specs.Prelude.{◌≡◌, ◌≤◌, ◌<◌, length, take, IfOk, IsOk};
 ghost use Rattle.std.specs.Io.KnownBytes.{Consumes, IsAtEnd};
 ghost use Rattle.automata.specs.Answers.{image_number};
-ghost use Rattle.writing.specs.Rooms.{answer_of, fitted_bytes};
+ghost use Rattle.writing.specs.Rooms.{fitted_bytes};
 ghost use Rattle.machine.specs.Program.{program_prints};
+ghost use Rattle.reporting.specs.Answers.{lines_answer};
 
-use automata::image::Image;
+use automata::image::{Image, read_image};
+use automata::refusal::Refusal;
+use blockers::room::BlockerRoom;
+use checker::begin::alone;
+use checker::record::Record;
+use checker::run::run;
+use checker::terms::Terms;
+use reporting::lines;
 use std::io;
 use std::io::{ErrorKind, Read, Write};
-use writing::Written;
+use wordroom::WordRoom;
 
 // The number of an image that was taken apart: 0 for one that holds an automaton.
-fn number_of(read: Image) -> u8
-    ensures { result ≡ image_number read }
+fn number_of(read: &Result<Image<'_>, Refusal>) -> u64
+    ensures { result ≡ image_number read.now }
 {
     match read {
-        Image::Valid(_) => 0,
-        Image::Refused(number) => number,
+        Ok(_) => 0,
+        Err(refusal) => u64::from(*refusal),
     }
 }
 
 // Both lines of the run on an image, in the program's rooms. 5,483 bytes are room enough.
-fn report(image: &[u8], room: &mut [u8]) -> Written
-    ensures enough { 5483 ≤ length room.old → result.number ≡ 0 }
-    ensures bytes { answer_of result room.new ≡ fitted_bytes 0 (program_prints image.now) room.old }
+fn report(image: &[u8], room: &mut [u8]) -> Result<usize, Refusal>
+    ensures enough { 5483 ≤ length room.old → IsOk result }
+    ensures bytes { lines_answer result room.new ≡ fitted_bytes 0 (program_prints image.now) room.old }
 {
-    let mut masks = [0u64; 256];
-    let mut levels = [0u32; 256];
-    let mut entered = [0u64; 256];
-    let mut cases = [0u64; 256];
-    let mut symbols = [0u8; 256];
-    let read = automata::image::read_image(image);
-    let Image::Valid(_head) = read else {
-        return reporting::lines(
-            checker::begin::alone(number_of(read)),
-            &masks,
-            &symbols,
-            room,
-        );
+    let mut blockers = BlockerRoom {
+        masks: &mut [0; 256],
+        levels: &mut [0; 256],
+        entered: &mut [0; 256],
     };
-    let hints = [0u64; 0];
-    let run = checker::run::run(
-        image,
-        &mut masks,
-        &mut levels,
-        &mut entered,
-        &mut cases,
-        &mut symbols,
-        &hints,
-        100000,
-        1,
-        0,
-    );
-    reporting::lines(run, &masks, &symbols, room)
+    let mut word = WordRoom {
+        cases: &mut [0; 256],
+        symbols: &mut [0; 256],
+    };
+    let read = read_image(image);
+    let Ok(_image) = &read else {
+        return lines(alone(number_of(&read)), blockers.masks, word.symbols, room);
+    };
+    let terms = Terms {
+        hints: &[],
+        allowance: 100000,
+        edition: 1,
+        way: 0,
+    };
+    let left = run(image, &mut blockers, &mut word, &terms);
+    lines(Record::from(left), blockers.masks, word.symbols, room)
 }
 
 // Fills the bytes from the input, as far as it goes; answers how many were read. Those stand in front, and if there are fewer than there is room for, the input is
@@ -90,6 +91,8 @@ fn main(rt: HostRuntime) -> io::Result<()> {
     // Enough for every output: each number has at most 20 digits and a space, five stand on the first line and at most 256 on the second, and each line has a
     // newline.
     let mut room = [0u8; 5483];
-    let made = report(&bytes[..size], &mut room);
-    rt.stdout().write_all(&room[..made.length])
+    let Ok(length) = report(&bytes[..size], &mut room) else {
+        unreachable!()
+    };
+    rt.stdout().write_all(&room[..length])
 }

@@ -1,6 +1,4 @@
 -- Laws of what the C interface gives back.
-pub mod Heads
-pub mod Prints
-pub mod Runs
 pub mod Calls
+pub mod Prints
 pub mod Reasons

@@ -11,12 +11,14 @@ ghost use Rattle.machine.specs.Runs.{run_of};
 ghost use Rattle.machine.specs.Records.{begin_of, step_of};
 ghost use Rattle.checker.specs.Stage.{terms_of};
 ghost use Rattle.checker.specs.Calls.{record_as};
-ghost use Rattle.exports.specs.Interface.{Wrote, Ran, Told, numbers_of, record_from, numbers_after, BeginGave, StepGave};
+ghost use Rattle.exports.specs.Interface.{Wrote, Ran, Told, numbers_of, record_from, BeginGave, StepGave};
 
-use automata::image::Image;
 use blockers::Level;
-use blockers::reasons::Reason;
+use blockers::reasons::{Blockers, Reason};
+use blockers::room::BlockerRoom;
 use checker::record::{KeptLevel, Record};
+use checker::terms::Terms;
+use wordroom::WordRoom;
 
 // 0, and n, k, m, I and F in `head`; or the refusing number, and `head` as it was.
 #[unsafe(no_mangle)]
@@ -25,12 +27,13 @@ pub extern "C" fn afa_read(image: &[u8], head: &mut [u64; 5]) -> u64
     ensures values { head.new ≡ head_after head.old (read_image image.now) }
 {
     match automata::image::read_image(image) {
-        Image::Refused(number) => number as u64,
-        Image::Valid(found) => {
+        Err(refusal) => u64::from(refusal),
+        Ok(read) => {
+            let found = read.head();
             *head = [
-                found.states as u64,
-                found.symbols as u64,
-                found.rows as u64,
+                u64::from(found.states),
+                u64::from(found.symbols),
+                u64::from(found.rows),
                 found.initial,
                 found.finals,
             ];
@@ -44,7 +47,10 @@ pub extern "C" fn afa_read(image: &[u8], head: &mut [u64; 5]) -> u64
 pub extern "C" fn afa_accepts(image: &[u8], word: &[u8]) -> u64
     ensures { result ≡ word_test image.now word.now }
 {
-    automata::word::word_test(image, word)
+    match automata::word::word_test(image, word) {
+        Err(refusal) => u64::from(refusal),
+        Ok(accepted) => u64::from(accepted),
+    }
 }
 
 // The print of the word's run in `room`, from its first place on: 1 with the length of the print in `length`; or 0 where the word is not accepted, 35 where
@@ -58,12 +64,20 @@ pub extern "C" fn afa_print_run(
 ) -> u64
     ensures { Wrote result length.new room.new (print_run image.now word.now room.old) }
 {
-    let made = printing::print::print_run(image, word, room);
-    *length = [made.length as u64];
-    made.number
+    *length = [0];
+    match printing::print::print_run(image, word, room) {
+        Err(refusal) => u64::from(refusal),
+        Ok(None) => 0,
+        Ok(Some(written)) => {
+            // as Rust, std has no `u64::from` of a usize
+            *length = [written as u64];
+            1
+        }
+    }
 }
 
-// The number of a run, with steps, level, blockers held and hints accepted in `counts`. A refused run leaves its tables as they were.
+// The number of a run, with steps, level, blockers held and hints accepted in `counts`. A refused run leaves its tables as they were. C lends each table by itself;
+// each of the three calls makes its own structs of them, since a struct that held both would lose the tables to the proof.
 #[unsafe(no_mangle)]
 pub extern "C" fn afa_run(
     image: &[u8],
@@ -81,31 +95,32 @@ pub extern "C" fn afa_run(
     ensures { Ran result counts.new (lent_after masks.new levels.new entered.new cases.new symbols.new)
         (run_of image.now (lent_before masks.old levels.old entered.old cases.old symbols.old) (terms_of hints.now allowance edition way)) }
 {
-    let made = checker::run::run(
-        image, masks, levels, entered, cases, symbols, hints, allowance, edition, way,
-    );
-    *counts = [
-        made.steps,
-        made.level.0 as u64,
-        made.held as u64,
-        made.accepted,
-    ];
-    made.answer as u64
+    let mut room = BlockerRoom {
+        masks,
+        levels,
+        entered,
+    };
+    let mut word = WordRoom { cases, symbols };
+    let terms = Terms {
+        hints,
+        allowance,
+        edition,
+        way,
+    };
+    let made = Record::from(checker::run::run(image, &mut room, &mut word, &terms));
+    *counts = [made.steps, made.level.0, made.held, made.accepted];
+    made.answer
 }
 
-// The eight numbers of a record.
+// The eight numbers of a record, as C has them.
 fn numbers_of(left: Record) -> [u64; 8]
     ensures { result ≡ numbers_of (record_as left) }
 {
-    let mut open: u64 = 0;
-    if left.opened {
-        open = 1;
-    }
     [
         left.answer,
         left.steps,
         left.level.0,
-        open,
+        u64::from(left.opened),
         left.held,
         left.pending,
         left.blocks,
@@ -113,7 +128,7 @@ fn numbers_of(left: Record) -> [u64; 8]
     ]
 }
 
-// The record of eight numbers.
+// The record of eight numbers. C sends any, so this is no `TryFrom`.
 fn record_from(numbers: [u64; 8]) -> Record
     ensures { record_as result ≡ record_from numbers }
 {
@@ -127,19 +142,6 @@ fn record_from(numbers: [u64; 8]) -> Record
         blocks: numbers[6],
         accepted: numbers[7],
     }
-}
-
-// The eight numbers after a step: as they were, unless it was made.
-fn numbers_after(before: [u64; 8], number: u64, left: Record) -> [u64; 8]
-    ensures { result ≡ numbers_after before number (record_as left) }
-{
-    if before[0] != 6 {
-        return before;
-    }
-    if 20 <= number {
-        return before;
-    }
-    numbers_of(left)
 }
 
 // Begins a run, which afa_step then makes step by step: the record's answer, with the record in `numbers`. A refused begin leaves its tables as they were, and
@@ -160,14 +162,25 @@ pub extern "C" fn afa_begin(
     ensures { BeginGave result numbers.new (lent_after masks.new levels.new entered.new cases.new symbols.new)
         (begin_of image.now (lent_before masks.old levels.old entered.old cases.old symbols.old) (terms_of hints.now 0 edition way)) }
 {
-    let left = checker::begin::begin(
-        image, masks, levels, entered, cases, symbols, hints, edition, way,
-    );
+    let mut room = BlockerRoom {
+        masks,
+        levels,
+        entered,
+    };
+    let mut word = WordRoom { cases, symbols };
+    let terms = Terms {
+        hints,
+        allowance: 0,
+        edition,
+        way,
+    };
+    let left = Record::from(checker::begin::begin(image, &mut room, &mut word, &terms));
     *numbers = numbers_of(left);
     left.answer
 }
 
 // Makes one step of the run whose record is in `numbers`: the record's answer then, or the number that refuses the step, with record and tables as they were.
+// The numbers of a finished record stay too, whatever number stood for open.
 #[unsafe(no_mangle)]
 pub extern "C" fn afa_step(
     image: &[u8],
@@ -186,13 +199,29 @@ pub extern "C" fn afa_step(
         (step_of image.now (terms_of hints.now allowance edition way)
         (record { tables = lent_before masks.old levels.old entered.old cases.old symbols.old; run = record_from numbers.old })) }
 {
+    let mut room = BlockerRoom {
+        masks,
+        levels,
+        entered,
+    };
+    let mut word = WordRoom { cases, symbols };
+    let terms = Terms {
+        hints,
+        allowance,
+        edition,
+        way,
+    };
     let before = *numbers;
     let mut kept = record_from(before);
-    let number = checker::step::step_on(
-        image, masks, levels, entered, cases, symbols, hints, allowance, edition, way, &mut kept,
-    );
-    *numbers = numbers_after(before, number, kept);
-    number
+    match checker::step::step_on(image, &mut room, &mut word, &terms, &mut kept) {
+        Err(refusal) => u64::from(refusal),
+        Ok(answer) => {
+            if before[0] == 6 {
+                *numbers = numbers_of(kept);
+            }
+            u64::from(answer)
+        }
+    }
 }
 
 // Why the case is blocked at the level: 1 with the place and the level of the first covering blocker in `found`, or 2 with the lowest initial state absent
@@ -209,17 +238,19 @@ pub extern "C" fn afa_why(
     ensures { Told result found.new (why initial (blockers_before masks.now levels.now) level case) }
 {
     *found = [0, 0];
-    if 4294967295 < level {
+    let Ok(number) = u32::try_from(level) else {
         return 0;
-    }
-    match blockers::reasons::why(initial, masks, levels, Level(level as u32), case) {
-        Reason::Nothing => 0,
-        Reason::ByBlocker(place, its) => {
-            *found = [place as u64, its.0 as u64];
+    };
+    let blockers = Blockers { masks, levels };
+    match blockers.why(initial, Level(number), case) {
+        None => 0,
+        Some(Reason::ByBlocker(place, its)) => {
+            // as Rust, std has no `u64::from` of a usize
+            *found = [place as u64, u64::from(its.0)];
             1
         }
-        Reason::ByStart(q) => {
-            *found = [q.0 as u64, 0];
+        Some(Reason::ByStart(q)) => {
+            *found = [u64::from(q.0), 0];
             2
         }
     }

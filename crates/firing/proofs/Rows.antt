@@ -13,7 +13,7 @@ use Rattle.lists.proofs.Lists.{in_none, in_cases}
 use Rattle.automata.specs.Image.{Row, Valid, symbols_of, row_count_of, offset_of, size_of, rows_start, span_start, pairs_hold, row_at, rows_from, rows_of}
 use Rattle.automata.specs.Walk.{RowsStand}
 use Rattle.automata.proofs.ValidImage.{valid_kept, span_begins, span_nines, span_in, spans_nine, rows_of_symbol, valid_rows}
-use Rattle.firing.specs.Linked.{place_of, Belongs}
+use Rattle.firing.specs.Linked.{place_of, rows_to, Belongs}
 
 span_after : (image : List ℕ) (s : ℕ) → span_start image (suc s) ≡ offset_of image s + size_of image s
 unfolding span_start
@@ -59,6 +59,13 @@ pub record Numbered (image : List ℕ) (s : ℕ) (row : Row) : Type 0 where
   pub is : row_at image (place_of image number) ≡ row
 
 module _ (image : List ℕ) (valid : Valid image) where
+  -- the rows before those of a symbol
+  pub rows_stand_before : (s : ℕ) → s ≤ symbols_of image → place_of image (rows_to image (span_start image s)) ≡ span_start image s
+  rows_stand_before s l = let nine = spans_nine image valid s l in omega (arith, nine.0, nine.1)
+
+  pub span_begins_late : (s : ℕ) → s ≤ symbols_of image → place_of image 0 ≤ span_start image s
+  span_begins_late s l = omega (arith, (spans_nine image valid s l).0)
+
   pub numbered : (s : ℕ) → s < symbols_of image → (row : Row) → row ∈ rows_of image s → Numbered image s row
   numbered s l row m =
       let place = places image row (size_of image s / 9) (offset_of image s) (rw (rows_of_symbol image s l) at m) in

@@ -1,8 +1,10 @@
 -- The backward sets of a set, by symbol, and a state that is tried for it. Assumes nothing: these are definitions.
 use Rattle.std.specs.Prelude.{ℕ, ◌≤◌, ◌<◌, ◌≡◌, List, T, length, get_or}
-use Rattle.masks.specs.Sets.{Member, subset, union, single}
-use Rattle.automata.specs.Image.{states_of, symbols_of, rows_of}
+use Rattle.masks.specs.Sets.{Member, subset}
+use Rattle.automata.specs.Image.{states_of, symbols_of, row_count_of, rows_of}
 use Rattle.automata.specs.Automaton.{backward}
+use Rattle.firing.specs.declared.linking.RowChains.{RowChains}
+use Rattle.firing.specs.Linked.{Linked}
 
 -- the table has the backward set of Y by each symbol
 pub record SetsOf (image : List ℕ) (Y : ℕ) (sets : List ℕ) : Type 0 where
@@ -14,9 +16,10 @@ pub record Below (X q Y : ℕ) : Type 0 where
   pub inside : T (subset X Y)
   pub above : (p : ℕ) → q ≤ p → Member p Y → Member p X
 
--- state q, which X lacks, is tried for Y
-pub record Trying (image : List ℕ) (X q Y more : ℕ) : Type 0 where
+-- State q is tried for Y, which lacks it and has grown from a set X by states below q. The rows are chained by what X lacks.
+pub record Trying {N : ℕ} (image : List ℕ) (q Y : ℕ) (chains : RowChains N) : Type 0 where
+  pub X : ℕ
+  pub linked : Linked image X (row_count_of image) chains
   pub below : Below X q Y
   pub known : q < states_of image
   pub new : Member q X → ⊥
-  pub is : more ≡ union Y (single q)

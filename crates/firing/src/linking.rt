@@ -2,84 +2,95 @@
 // inside the set only when that state does.
 ghost use Rattle.std.specs.Prelude.{◌≡◌, suc, ◌+◌, ◌≤◌, ◌<◌};
 ghost use Rattle.automata.specs.Image.{symbols_of, row_count_of, span_start};
-ghost use Rattle.automata.specs.Answers.{ReadAs};
-ghost use Rattle.firing.specs.Linked.{place_of, Belongs, Linked};
+ghost use Rattle.firing.specs.Linked.{place_of, rows_to, chain_of, Belongs, Linked};
 ghost use Rattle.firing.specs.Linked.{firing as firing_of};
 
-use automata::image::{Head, Symbol};
-use automata::rows::{row_at, rows_of};
+use automata::image::{Image, Symbol};
+use automata::rows::rows_of;
+use masks::State;
 
-// 1 and the highest state of the case that x lacks, or 0.
-fn firing(case: u64, x: u64) -> usize
-    ensures { (result ≡ firing_of case x) × (result ≤ 64) }
-{
-    let lacking = masks::without(case, x);
-    (64 - u64::leading_zeros(lacking)) as usize
+// Rows of an image, by their numbers: the last in each chain, and beside each row the one before it and the symbol.
+#[derive(Drop)]
+pub struct RowChains<const N: usize> {
+    pub(crate) lasts: [u16; 65],
+    pub(crate) links: [u16; N],
+    pub(crate) symbols: [u8; N],
 }
 
-// One row more is chained: the one at `at`, of the symbol.
-fn link_row(
-    image: &[u8],
-    at: usize,
-    x: u64,
-    symbol: Symbol,
-    row: usize,
-    lasts: &mut [u16],
-    links: &mut [u16],
-    symbols: &mut [u8],
-)
-    requires { Linked image.now x row lasts.old links.old symbols.old × Belongs image.now symbol.0 row × (at ≡ place_of image.now row) }
-    ensures { Linked image.now x (row + 1) lasts.new links.new symbols.new }
+// Where the row with this number stands.
+pub(crate) fn place_of(image: &Image<'_>, row: usize) -> usize
+    requires { row < 4096 }
+    ensures { result ≡ place_of image.now row }
 {
-    let read = row_at(image, at);
-    let fires = firing(read.case, x);
-    chains::link(lasts, links, fires, row);
-    symbols[row] = symbol.0;
+    20 + 8 * usize::from(image.head().symbols) + 9 * row
 }
 
-// The rows of the symbol, whose first has the number `count`; answers the number behind the last.
-fn link_symbol(
-    image: &[u8],
-    x: u64,
-    symbol: Symbol,
-    count: usize,
-    lasts: &mut [u16],
-    links: &mut [u16],
-    symbols: &mut [u8],
-) -> usize
-    requires { Linked image.now x count lasts.old links.old symbols.old × (symbol.0 < symbols_of image.now)
-        × (place_of image.now count ≡ span_start image.now symbol.0) }
-    ensures { Linked image.now x result lasts.new links.new symbols.new
-        × (place_of image.now result ≡ span_start image.now (suc symbol.0)) }
+// How many rows stand before a place.
+fn rows_to(image: &Image<'_>, at: usize) -> usize
+    requires { place_of image.now 0 ≤ at }
+    ensures { result ≡ rows_to image.now at }
 {
-    let rows = rows_of(image, symbol);
-    let end = rows.end;
-    let mut at = rows.start;
-    let mut row = count;
-    while at < end {
-        link_row(image, at, x, symbol, row, lasts, links, symbols);
-        at += 9;
-        row += 1;
+    (at - place_of(image, 0)) / 9
+}
+
+// The highest state of the case that x lacks, if it lacks one.
+#[tactic(auto, unfolding(crate::specs::Linked::chain_of, crate::specs::Linked::firing))]
+fn firing(case: u64, x: u64) -> Option<State>
+    ensures { chain_of result ≡ firing_of case x }
+{
+    let above = u64::leading_zeros(masks::without(case, x));
+    let highest = 63u32.checked_sub(above)?;
+    // below 64, where `try_from` would have an error to handle
+    Some(State(highest as u8))
+}
+
+// The chain of the rows that fire at the state, or of those that never do.
+#[tactic(auto, unfolding(crate::specs::Linked::chain_of))]
+pub(crate) fn chain_of(fires: Option<State>) -> usize
+    ensures { result ≡ chain_of fires }
+{
+    match fires {
+        None => 0,
+        Some(q) => usize::from(q.0) + 1,
     }
-    row
 }
 
-// All rows.
-pub fn link_rows(
-    image: &[u8],
-    head: Head,
-    x: u64,
-    lasts: &mut [u16],
-    links: &mut [u16],
-    symbols: &mut [u8],
-)
-    requires { ReadAs image.now head × Linked image.now x 0 lasts.old links.old symbols.old }
-    ensures { Linked image.now x (row_count_of image.now) lasts.new links.new symbols.new }
-{
-    let mut count: usize = 0;
-    let mut symbol = Symbol(0);
-    while symbol.0 < head.symbols {
-        count = link_symbol(image, x, symbol, count, lasts, links, symbols);
-        symbol = Symbol(symbol.0 + 1);
+impl<const N: usize> RowChains<N> {
+    // One row more is chained: the one with this number, of the symbol.
+    fn link_row(&mut self, image: &Image<'_>, x: u64, symbol: Symbol, row: usize)
+        requires { Linked image.now x row self.old × Belongs image.now symbol.0 row }
+        ensures { Linked image.now x (row + 1) self.new }
+    {
+        let case = image.row_at(place_of(image, row)).case;
+        let chain = chain_of(firing(case, x));
+        chains::link(&mut self.lasts, &mut self.links, chain, row);
+        self.symbols[row] = symbol.0;
+    }
+
+    // The rows of the symbol.
+    fn link_symbol(&mut self, image: &Image<'_>, x: u64, symbol: Symbol)
+        requires { Linked image.now x (rows_to image.now (span_start image.now symbol.0)) self.old × (symbol.0 < symbols_of image.now) }
+        ensures { Linked image.now x (rows_to image.now (span_start image.now (suc symbol.0))) self.new }
+    {
+        let rows = rows_of(image, symbol);
+        for row in rows_to(image, rows.start)..rows_to(image, rows.end) {
+            self.link_row(image, x, symbol, row);
+        }
+    }
+
+    // All rows of the image.
+    pub fn of(image: &Image<'_>, x: u64) -> RowChains<N>
+        requires { row_count_of image.now ≤ N }
+        ensures { Linked image.now x (row_count_of image.now) result }
+    {
+        let mut chains = RowChains {
+            lasts: [0; 65],
+            links: [0; N],
+            symbols: [0; N],
+        };
+        for symbol in 0..image.head().symbols {
+            chains.link_symbol(image, x, Symbol(symbol));
+        }
+        chains
     }
 }

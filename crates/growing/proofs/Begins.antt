@@ -1,42 +1,43 @@
--- The backward sets of X and the lists of what covers them, that a growth begins with, and its tables on the stack. Assumes nothing.
-use Prim.Native.Nat.{ℕ, zero, suc, ◌+◌, ◌-◌, ◌≤◌, ◌<◌}
+-- The backward sets of X and the lists of what covers them, that a growth begins with. Assumes nothing.
+use Prim.Native.Nat.{ℕ, zero, suc, ◌+◌, ◌≤◌, ◌<◌}
 use mathlib.Core.Path.{◌≡◌, refl, sym, ap, subst, ◌∙◌}
-use mathlib.Core.Bool.{Bool, true, false, not}
+use mathlib.Core.Bool.{Bool, false, not}
 use mathlib.Core.List.{List}
 use native.Mathlib.Decide.{ℕ_discrete}
 use native.Mathlib.Omega.{arith}
-use borrow.Author.Tests.{not-false, eqb-true, eqb-false}
-use lib.Dec.{T, eqb}
-use lib.ListN.{length, get_or, set, length-set, replicate, length-replicate}
+use borrow.Author.Tests.{not-false}
+use lib.Dec.{T}
+use lib.ListN.{length, get_or, set, length-set}
 use lib.Seq.{get_or-set_same, get_or-set_other}
+use Rattle.std.proofs.Common.{Option, Some, None}
 use Rattle.lists.specs.Lists.{any}
 use Rattle.lists.proofs.Tests.{holds}
-use Rattle.masks.specs.Sets.{subset, within}
+use Rattle.masks.specs.Sets.{Member, subset, within}
 use Rattle.masks.proofs.Laws.{subset_reflexive}
 use Rattle.automata.specs.Image.{states_of, symbols_of, row_count_of, initial_of, rows_of}
 use Rattle.automata.specs.Automaton.{backward}
 use Rattle.automata.specs.declared.image.Head.{Head}
 use Rattle.automata.specs.Answers.{ReadAs}
 use Rattle.automata.proofs.ValidImage.{valid_kept}
-use Rattle.automata.proofs.Reading.{head_states, head_symbols, head_initial}
+use Rattle.automata.proofs.Reading.{head_symbols, head_initial}
 use Rattle.machine.specs.Machine.{Blocker, covers, blocked}
 use Rattle.machine.specs.Machine as Machine
-use Rattle.covering.specs.Listed.{one_holds, Listed}
-use Rattle.growing.specs.Near.{Tells, first_place}
-use Rattle.firing.specs.Linked.{Linked}
-use Rattle.growing.specs.Kept.{SymbolRoom, GrowthBegun}
-use Rattle.covering.proofs.Covering.{one_same}
-use Rattle.firing.proofs.Chaining.{none_linked}
+use Rattle.blockers.specs.Tables.{held_in}
+use Rattle.covering.specs.Listed.{one_holds, part, UpTo, in_order, nowhere, Listed, Tells}
+use Rattle.covering.proofs.Covering.{part_kept, up_to_further}
+use Rattle.growing.specs.declared.trying.Growth.{Growth}
+use Rattle.growing.specs.declared.trying.Grown.{Grown}
+use Rattle.growing.specs.declared.trying.Lists.{Lists}
+use Rattle.growing.specs.Near.{list_of}
+use Rattle.growing.specs.Kept.{SymbolRoom, Growing}
 
--- where the lists begin
-pub place_bottom : (below : ℕ) (b : Bool) → b ≡ eqb below 0 → b ≡ true → 65535 ≡ first_place below
-unfolding first_place
-place_bottom below b e t = sym (rw (eqb-true below 0 (sym e ∙ t)))
+-- what the tables have places for
+module _ {image : List ℕ} {head : Head} (read : ReadAs image head) where
+  pub symbol_within : {s place : ℕ} → s < head.symbols → place ≡ s → place < 65
+  symbol_within l e = omega (arith, head_symbols read, (valid_kept image read.valid).symbols_fit)
 
-pub place_above : (below : ℕ) (b : Bool) → b ≡ eqb below 0 → b ≡ false → 0 ≡ first_place below
-unfolding first_place
-place_above zero b e f = absurd (eqb-false 0 0 (sym e ∙ f) refl)
-place_above (suc below) b e f = refl
+  pub rows_most : row_count_of image ≤ 4096
+  rows_most = (valid_kept image read.valid).few_rows
 
 -- above level 0 a case is blocked exactly if a blocker covers it
 blocked_above : (initial : ℕ) (table : List Blocker) (below case : ℕ) → (below ≡ 0 → ⊥) → any (covers below case) table ≡ blocked initial table below case
@@ -44,171 +45,162 @@ unfolding blocked
 blocked_above initial table zero case n = absurd (n refl)
 blocked_above initial table (suc below) case n = refl
 
--- the first sets and lists, before symbol s
-pub record FirstSets (image : List ℕ) (table : List Blocker) (below X bound s count : ℕ) (sets₀ near₀ ends₀ sets near ends : List ℕ) : Type 0 where
-  pub all : bound ≡ symbols_of image
-  pub room : SymbolRoom image sets near ends
-  pub sets_long : length sets ≡ length sets₀
-  pub near_long : length near ≡ length near₀
-  pub ends_long : length ends ≡ length ends₀
-  pub bottom : below ≡ 0 → length near < count
-  pub last : count ≤ length near → get_or ends s 0 ≡ count
-  pub high : (t : ℕ) → t < s → get_or ends (suc t) 0 ≤ count
-  pub are : (t : ℕ) → t < s → get_or sets t 0 ≡ backward (rows_of image t) X
-  pub tells : (t : ℕ) → t < s → Tells (initial_of image) table below (backward (rows_of image t) X) near (get_or ends t 0) (get_or ends (suc t) 0)
-  pub settled : (t : ℕ) → t < s → T (Machine.settled (initial_of image) table below X (backward (rows_of image t) X))
+-- behind no place there is none, and no list
+none_further : {from to : Option ℕ} → from ≡ None → UpTo from to → to ≡ None
+none_further e nowhere = refl
+none_further e (in_order l) = cc
 
-pub first_starts : {image : List ℕ} {head : Head} {table : List Blocker} {below X : ℕ} {sets near ends : List ℕ} → ReadAs image head
-    → SymbolRoom image sets near ends → get_or ends 0 0 ≡ 0 → (count : ℕ) → count ≡ first_place below
-    → FirstSets image table below X head.symbols 0 count sets near ends sets near ends
-unfolding first_place
-first_starts {image} {head} {table} {below} {X} {sets} {near} {ends} read room zeroth count e =
+no_list : (near : List ℕ) (from to : Option ℕ) (list : List ℕ) → from ≡ None → part near from to ≡ Some list → ⊥
+unfolding part
+no_list near None to list e is = cc
+no_list near (Some from) to list e is = cc
+
+up_to_same : (place : Option ℕ) → UpTo place place
+up_to_same None = nowhere
+up_to_same (Some place) = in_order (omega arith)
+
+-- the first sets and lists, before symbol s
+pub record FirstSets (growth : Growth) (bound s : ℕ) (grown : Grown) (lists : Lists) : Type 0 where
+  pub all : bound ≡ symbols_of growth.image.now
+  pub room : SymbolRoom growth.image.now grown lists
+  pub begun : grown.set ≡ growth.x
+  pub bottom : growth.below.0 ≡ 0 → get_or lists.ends s None ≡ None
+  pub ahead : (t : ℕ) → t ≤ s → UpTo (get_or lists.ends t None) (get_or lists.ends s None)
+  pub are : (t : ℕ) → t < s → get_or grown.sets t 0 ≡ backward (rows_of growth.image.now t) growth.x
+  pub tells : (t : ℕ) → t < s → (case : ℕ) → T (subset (backward (rows_of growth.image.now t) growth.x) case)
+      → Tells (initial_of growth.image.now) (held_in growth.blockers.now) growth.below.0 (list_of lists.near lists.ends t) case
+  pub settled : (t : ℕ) → t < s
+      → T (Machine.settled (initial_of growth.image.now) (held_in growth.blockers.now) growth.below.0 growth.x (backward (rows_of growth.image.now t) growth.x))
+
+pub first_starts : {growth : Growth} {head : Head} {grown : Grown} {near : List ℕ} (ends : List (Option ℕ)) → ReadAs growth.image.now head
+    → grown.set ≡ growth.x → length grown.sets ≡ 64 → length grown.next ≡ 64 → length ends ≡ 65 → (first : Option ℕ) → (growth.below.0 ≡ 0 → first ≡ None)
+    → FirstSets growth head.symbols 0 grown (record { near = near; ends = set ends 0 first })
+first_starts {growth} ends read begun sets_long next_long ends_long first bottom =
+    let few = (valid_kept growth.image.now read.valid).symbols_fit in
+    let zeroth : get_or (set ends 0 first) 0 None ≡ first = get_or-set_same ends 0 first None (omega arith) in
     record {
       all = head_symbols read;
-      room = room;
-      sets_long = refl;
-      near_long = refl;
-      ends_long = refl;
-      bottom = λ z. omega (arith, e, ap first_place z, room.near_narrow);
-      last = λ l. last below e l;
-      high = λ t l. absurd (omega arith);
+      room = record {
+        sets_fit = omega (arith, few);
+        next_fits = omega (arith, few);
+        ends_fit = omega (arith, few, length-set ends 0 first);
+      };
+      begun = begun;
+      bottom = λ z. zeroth ∙ bottom z;
+      ahead = λ t l. let e : t ≡ 0 = omega arith in rw e (up_to_same _);
       are = λ t l. absurd (omega arith);
       tells = λ t l. absurd (omega arith);
       settled = λ t l. absurd (omega arith);
     }
-  where
-    last : (b : ℕ) → count ≡ first_place b → count ≤ length near → get_or ends 0 0 ≡ count
-    last zero q l = absurd (omega (arith, room.near_narrow))
-    last (suc b) q l = zeroth ∙ sym q
 
-module _ {image : List ℕ} {table : List Blocker} {below X bound s count : ℕ} {sets₀ near₀ ends₀ sets near ends : List ℕ}
-    (so_far : FirstSets image table below X bound s count sets₀ near₀ ends₀ sets near ends) where
-  pub first_known : s < bound → s < symbols_of image
-  first_known l = omega (arith, so_far.all)
+module _ {growth : Growth} {bound s : ℕ} {grown : Grown} {lists : Lists} (so_far : FirstSets growth bound s grown lists) where
+  abbrev image : List ℕ
+  image = growth.image.now
 
-  first_set_place : (place : ℕ) → s < bound → place ≡ s → place < length sets
-  first_set_place place l e = omega (arith, so_far.all, so_far.room.sets_fit)
+  abbrev table : List Blocker
+  table = held_in growth.blockers.now
 
-  first_end_place : (place : ℕ) → s < bound → place ≡ s → place + 1 < length ends
-  first_end_place place l e = omega (arith, so_far.all, so_far.room.ends_fit)
-
-  pub first_ends : bound ≤ s → true ≡ true → GrowthBegun image table below X sets near ends
-  first_ends l t =
+  pub first_ends : bound ≤ s → T (within (states_of image) growth.x) → Growing growth 0 grown lists
+  first_ends l fits =
       record {
+        states = record {
+          inside = rw so_far.begun (subset_reflexive growth.x);
+          above = λ p k m. subst (Member p) so_far.begun m;
+        };
+        fits = rw so_far.begun fits;
         room = so_far.room;
-        are = record { room = so_far.room.sets_fit; are = λ t k. so_far.are t (omega (arith, so_far.all)) };
-        lists = record { tells = λ t k. so_far.tells t (omega (arith, so_far.all)) };
-        settled = record { each = λ t k. so_far.settled t (omega (arith, so_far.all)) };
+        are = record {
+          room = so_far.room.sets_fit;
+          are = λ t k. so_far.are t (omega (arith, so_far.all)) ∙ ap (backward (rows_of image t)) (sym so_far.begun);
+        };
+        near = record { tells = λ t k. so_far.tells t (omega (arith, so_far.all)) };
+        settled = record { each = λ t k. rw so_far.begun (so_far.settled t (omega (arith, so_far.all))) };
       }
 
   -- one symbol more
-  module _ (P count' : ℕ) (near' : List ℕ) (back : P ≡ backward (rows_of image s) X) (listed : Listed table below P near near' count count')
-      (long : length near' ≡ length near) where
-    here_tells : {head : Head} → ReadAs image head → Tells head.initial table below P near' count count'
-    here_tells {head} read few case larger =
-        listed.holds few case larger
-        ∙ blocked_above head.initial table below case (λ z. omega (arith, so_far.bottom z, listed.low, long))
+  module _ (P place : ℕ) (is_place : place ≡ s) (near' : List ℕ) (end' : Option ℕ) (back : P ≡ backward (rows_of image s) growth.x)
+      (listed : Listed table growth.below.0 P lists.near near' (get_or lists.ends place None) end') (long : length near' ≡ length lists.near) where
+    ends' : List (Option ℕ)
+    ends' = set lists.ends (place + 1) end'
 
-    pub first_told : {head : Head} → ReadAs image head
-        → count' ≤ length near' → one_holds near' count (count' - count) P ≡ blocked head.initial table below P
-    first_told read few = here_tells read few P (subset_reflexive P)
+    listed_here : Listed table growth.below.0 P lists.near near' (get_or lists.ends s None) end'
+    listed_here = subst (λ (x : ℕ). Listed table growth.below.0 P lists.near near' (get_or lists.ends x None) end') is_place listed
 
-    pub first_goes : {head : Head} (b : Bool) (place : ℕ) → ReadAs image head → s < bound → b ≡ Machine.settled head.initial table below X P → not b ≡ false → place ≡ s
-        → FirstSets image table below X bound (s + 1) count' sets₀ near₀ ends₀ (set sets place P) near' (set ends (place + 1) count')
-    first_goes {head} b place read l test n e =
+    own_end : s < bound → (k : ℕ) → k ≡ s + 1 → get_or ends' k None ≡ end'
+    unfolding ends'
+    own_end l k q =
+        let e : k ≡ place + 1 = omega arith in
+        rw e (get_or-set_same lists.ends (place + 1) end' None (omega (arith, so_far.all, so_far.room.ends_fit)))
+
+    other_end : (k : ℕ) → k ≤ s → get_or ends' k None ≡ get_or lists.ends k None
+    unfolding ends'
+    other_end k q = get_or-set_other lists.ends (place + 1) k end' None (λ z. omega arith)
+
+    own_list : s < bound → (near : List ℕ) (t : ℕ) → t ≡ s → list_of near ends' t ≡ part near (get_or lists.ends s None) end'
+    own_list l near t q = rw (q, other_end s (omega arith), own_end l (suc s) (omega arith)) refl
+
+    here_tells : (case : ℕ) → T (subset P case) → (list : List ℕ) → part near' (get_or lists.ends s None) end' ≡ Some list
+        → one_holds list case ≡ blocked (initial_of image) table growth.below.0 case
+    here_tells case larger list is =
+        listed_here.holds list is case larger
+        ∙ blocked_above (initial_of image) table growth.below.0 case (λ z. no_list near' _ end' list (so_far.bottom z) is)
+
+    pub first_told : {head : Head} → ReadAs image head → s < bound → (listed : Option (List ℕ)) → listed ≡ list_of near' (set lists.ends (place + 1) end') place
+        → (list : List ℕ) → listed ≡ Some list → one_holds list P ≡ blocked head.initial table growth.below.0 P
+    unfolding ends'
+    first_told read l listed is list one =
+        rw (head_initial read) (here_tells P (subset_reflexive P) list (sym (own_list l near' place is_place) ∙ sym is ∙ one))
+
+    pub first_goes : {head : Head} (b : Bool) → ReadAs image head → s < bound → b ≡ Machine.settled head.initial table growth.below.0 growth.x P → not b ≡ false
+        → FirstSets growth bound (s + 1) (record { set = grown.set; sets = set grown.sets place P; next = grown.next })
+        (record { near = near'; ends = set lists.ends (place + 1) end' })
+    unfolding ends'
+    first_goes {head} b read l test n =
         record {
           all = so_far.all;
           room = record {
-            sets_fit = omega (arith, length-set sets place P, so_far.room.sets_fit);
-            near_narrow = omega (arith, long, so_far.room.near_narrow);
-            ends_fit = omega (arith, length-set ends (place + 1) count', so_far.room.ends_fit);
+            sets_fit = omega (arith, length-set grown.sets place P, so_far.room.sets_fit);
+            next_fits = so_far.room.next_fits;
+            ends_fit = omega (arith, length-set lists.ends (place + 1) end', so_far.room.ends_fit);
           };
-          sets_long = length-set sets place P ∙ so_far.sets_long;
-          near_long = long ∙ so_far.near_long;
-          ends_long = length-set ends (place + 1) count' ∙ so_far.ends_long;
-          bottom = λ z. omega (arith, so_far.bottom z, listed.low, long);
-          last = λ k. own_end (s + 1) (omega arith);
-          high = λ t k. high t k (ℕ_discrete t s);
+          begun = so_far.begun;
+          bottom = λ z. own_end l (s + 1) refl ∙ none_further (so_far.bottom z) listed_here.low;
+          ahead = λ t k. ahead t k (ℕ_discrete t (s + 1));
           are = λ t k. are t k (ℕ_discrete t s);
           tells = λ t k. tells t k (ℕ_discrete t s);
           settled = λ t k. is_settled t k (ℕ_discrete t s);
         }
       where
-        own_end : (k : ℕ) → k ≡ place + 1 → get_or (set ends (place + 1) count') k 0 ≡ count'
-        own_end k q = rw q (get_or-set_same ends (place + 1) count' 0 (first_end_place place l e))
+        before : (t : ℕ) → t ≤ s → UpTo (get_or ends' t None) (get_or lists.ends s None)
+        before t k = rw (other_end t k) (so_far.ahead t k)
 
-        other_end : (k : ℕ) → k ≤ s → get_or (set ends (place + 1) count') k 0 ≡ get_or ends k 0
-        other_end k q = get_or-set_other ends (place + 1) k count' 0 (λ z. omega arith)
+        ahead : (t : ℕ) → t ≤ s + 1 → Dec (t ≡ s + 1) → UpTo (get_or ends' t None) (get_or ends' (s + 1) None)
+        ahead t k (yes q) = rw q (up_to_same _)
+        ahead t k (no q) = rw (own_end l (s + 1) refl) (up_to_further (before t (omega arith)) listed_here.low)
 
-        high : (t : ℕ) → t < s + 1 → Dec (t ≡ s) → get_or (set ends (place + 1) count') (suc t) 0 ≤ count'
-        high t k (yes q) = omega (arith, own_end (suc t) (omega arith))
-        high t k (no q) = omega (arith, other_end (suc t) (omega arith), so_far.high t (omega arith), listed.low)
+        are : (t : ℕ) → t < s + 1 → Dec (t ≡ s) → get_or (set grown.sets place P) t 0 ≡ backward (rows_of image t) growth.x
+        are t k (yes q) =
+            let e : t ≡ place = omega arith in
+            rw e (get_or-set_same grown.sets place P 0 (omega (arith, so_far.all, so_far.room.sets_fit)))
+            ∙ back
+            ∙ ap (λ (x : ℕ). backward (rows_of image x) growth.x) (sym q)
+        are t k (no q) = get_or-set_other grown.sets place t P 0 (λ z. q (z ∙ is_place)) ∙ so_far.are t (omega arith)
 
-        are : (t : ℕ) → t < s + 1 → Dec (t ≡ s) → get_or (set sets place P) t 0 ≡ backward (rows_of image t) X
-        are t k (yes q) = rw (q, ← e) (get_or-set_same sets place P 0 (first_set_place place l e)) ∙ back ∙ ap (λ (x : ℕ). backward (rows_of image x) X) (sym q)
-        are t k (no q) = get_or-set_other sets place t P 0 (λ z. q (z ∙ e)) ∙ so_far.are t (omega arith)
-
-        is_settled : (t : ℕ) → t < s + 1 → Dec (t ≡ s) → T (Machine.settled (initial_of image) table below X (backward (rows_of image t) X))
+        is_settled : (t : ℕ) → t < s + 1 → Dec (t ≡ s)
+            → T (Machine.settled (initial_of image) table growth.below.0 growth.x (backward (rows_of image t) growth.x))
         is_settled t k (yes q) =
-            subst (λ (x : ℕ). T (Machine.settled (initial_of image) table below X (backward (rows_of image x) X))) (sym q)
-            (subst (λ (x : ℕ). T (Machine.settled (initial_of image) table below X x)) back
-            (subst (λ (I : ℕ). T (Machine.settled I table below X P)) (head_initial read) (holds (sym test ∙ not-false b n))))
+            subst (λ (x : ℕ). T (Machine.settled (initial_of image) table growth.below.0 growth.x (backward (rows_of image x) growth.x))) (sym q)
+            (subst (λ (x : ℕ). T (Machine.settled (initial_of image) table growth.below.0 growth.x x)) back
+            (subst (λ (I : ℕ). T (Machine.settled I table growth.below.0 growth.x P)) (head_initial read) (holds (sym test ∙ not-false b n))))
         is_settled t k (no q) = so_far.settled t (omega arith)
 
-        tells : (t : ℕ) → t < s + 1 → Dec (t ≡ s)
-            → Tells (initial_of image) table below (backward (rows_of image t) X) near' (get_or (set ends (place + 1) count') t 0) (get_or (set ends (place + 1) count') (suc t) 0)
-        tells t k (yes q) few case larger =
-            let to : get_or (set ends (place + 1) count') (suc t) 0 ≡ count' = own_end (suc t) (omega arith) in
-            let from : get_or (set ends (place + 1) count') t 0 ≡ count =
-            other_end t (omega arith) ∙ ap (λ (x : ℕ). get_or ends x 0) q ∙ so_far.last (omega (arith, few, to, long, listed.low)) in
-            rw (from, to)
-            (here_tells read (omega (arith, few, to)) case
-            (subst (λ (x : ℕ). T (subset x case)) (ap (λ (x : ℕ). backward (rows_of image x) X) q ∙ sym back) larger)
-            ∙ ap (λ (I : ℕ). blocked I table below case) (head_initial read))
-        tells t k (no q) few case larger =
-            let to = other_end (suc t) (omega arith) in
-            let from = other_end t (omega arith) in
-            let below_count = so_far.high t (omega arith) in
-            rw (from, to)
-            (one_same near near' (get_or ends t 0) (get_or ends (suc t) 0 - get_or ends t 0) case (λ j h i. listed.kept j (omega arith))
-            ∙ so_far.tells t (omega arith) (omega (arith, few, to, long)) case larger)
-
--- the tables on the stack
-module _ {image : List ℕ} {head : Head} (read : ReadAs image head) where
-  pub symbol_room : SymbolRoom image (replicate 64 0) (replicate 256 0) (replicate 65 0)
-  symbol_room =
-      let kept = valid_kept image read.valid in
-      record {
-        sets_fit = omega (arith, length-replicate {A = ℕ} 64 0, kept.symbols_fit);
-        near_narrow = omega (arith, length-replicate {A = ℕ} 256 0);
-        ends_fit = omega (arith, length-replicate {A = ℕ} 65 0, kept.symbols_fit);
-      }
-
-  pub next_table : symbols_of image ≤ length (replicate {A = ℕ} 64 0)
-  next_table = omega (arith, length-replicate {A = ℕ} 64 0, (valid_kept image read.valid).symbols_fit)
-
-  pub short_linked : (X : ℕ) → row_count_of image < 512 → Linked image X 0 (replicate 65 0) (replicate 512 0) (replicate 512 0)
-  short_linked X l =
-      none_linked image X 65 (replicate 65 0) (replicate 512 0) (replicate 512 0) read refl
-      (record {
-        lasts_fit = omega (arith, length-replicate {A = ℕ} 65 0);
-        links_fit = omega (arith, length-replicate {A = ℕ} 512 0);
-        symbols_fit = omega (arith, length-replicate {A = ℕ} 512 0);
-      })
-
-  pub long_linked : (X : ℕ) → Linked image X 0 (replicate 65 0) (replicate 4096 0) (replicate 4096 0)
-  long_linked X =
-      let few = (valid_kept image read.valid).few_rows in
-      none_linked image X 65 (replicate 65 0) (replicate 4096 0) (replicate 4096 0) read refl
-      (record {
-        lasts_fit = omega (arith, length-replicate {A = ℕ} 65 0);
-        links_fit = omega (arith, length-replicate {A = ℕ} 4096 0);
-        symbols_fit = omega (arith, length-replicate {A = ℕ} 4096 0);
-      })
-
-  pub fits_told : (X : ℕ) (b : Bool) → b ≡ within head.states X → not b ≡ false → T (within (states_of image) X)
-  fits_told X b e n = holds (ap (λ (states : ℕ). within states X) (sym (head_states read)) ∙ sym e ∙ not-false b n)
-
-pub begun_told : {image : List ℕ} {table : List Blocker} {below X : ℕ} {sets near ends : List ℕ} (r : Bool)
-    → (r ≡ true → GrowthBegun image table below X sets near ends) → not r ≡ false → GrowthBegun image table below X sets near ends
-begun_told r f n = f (not-false r n)
+        tells : (t : ℕ) → t < s + 1 → Dec (t ≡ s) → (case : ℕ) → T (subset (backward (rows_of image t) growth.x) case)
+            → Tells (initial_of image) table growth.below.0 (list_of near' ends' t) case
+        tells t k (yes q) case larger list is =
+            here_tells case (subst (λ (x : ℕ). T (subset x case)) (ap (λ (x : ℕ). backward (rows_of image x) growth.x) q ∙ sym back) larger) list
+            (sym (own_list l near' t q) ∙ is)
+        tells t k (no q) case larger list is =
+            so_far.tells t (omega arith) case larger list
+            (sym (part_kept lists.near near' _ _ long (λ j u. listed_here.kept j (up_to_further u (so_far.ahead (suc t) (omega arith)))))
+            ∙ sym (rw (other_end t (omega arith), other_end (suc t) (omega arith)) refl)
+            ∙ is)

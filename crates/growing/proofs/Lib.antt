@@ -1,5 +1,4 @@
 -- Laws of the growth over tables, by subject.
-pub mod Copies
 pub mod Begins
 pub mod Settles
 pub mod Tries

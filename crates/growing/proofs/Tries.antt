@@ -1,6 +1,6 @@
 -- One state is tried after the other: without the state, with it, and the walk over all. Assumes nothing.
 use Prim.Native.Nat.{ℕ, ◌+◌, ◌≤◌, ◌<◌}
-use mathlib.Core.Path.{◌≡◌, refl, sym, ◌∙◌}
+use mathlib.Core.Path.{◌≡◌, refl, sym, ap, subst, ◌∙◌}
 use mathlib.Core.Bool.{Bool, true, false}
 use mathlib.Core.List.{List}
 use mathlib.Core.Logic.{◌⊎◌, inl, inr}
@@ -9,139 +9,148 @@ use lib.Dec.{T}
 use lib.ListN.{length}
 use Rattle.lists.proofs.Lists.{each_from_at}
 use Rattle.lists.proofs.Tests.{holds, fails, and_right}
-use Rattle.masks.specs.Sets.{Member, member, union, single, within}
-use Rattle.masks.proofs.Laws.{member_means, subset_reflexive}
-use Rattle.automata.specs.Image.{states_of, symbols_of, initial_of, rows_of}
+use Rattle.masks.specs.Sets.{Member, member, subset, union, single, within}
+use Rattle.masks.proofs.Laws.{member_means, members_subset, subset_antisymmetric}
+use Rattle.automata.specs.Image.{states_of, symbols_of, row_count_of, initial_of, rows_of}
 use Rattle.automata.specs.Automaton.{backward}
 use Rattle.automata.specs.declared.image.Head.{Head}
 use Rattle.automata.specs.Answers.{ReadAs}
+use Rattle.automata.proofs.ValidImage.{valid_kept}
 use Rattle.automata.proofs.Reading.{head_symbols}
 use Rattle.machine.specs.Machine.{Blocker, passes, with_state, by_states}
 use Rattle.machine.specs.Machine as Machine
 use Rattle.machine.specs.Runs.{system_of}
-use Rattle.firing.specs.Sets.{SetsOf, Below, Trying}
-use Rattle.growing.specs.Kept.{AllSettled, GrowthBegun, Growing, Settling, Copied}
-use Rattle.passing.specs.Grown.{Grown}
-use Rattle.passing.proofs.States.{grown_more, StatesTried, states_start, states_go, states_end}
+use Rattle.blockers.specs.Tables.{held_in}
+use Rattle.passing.specs.Grown as Passing
+use Rattle.passing.specs.Grown.{all_settled}
+use Rattle.passing.proofs.Passing.{pass_initial, pass_grown}
+use Rattle.passing.proofs.States.{grown_more, state_kept, state_left, StatesTried, states_start, states_go, states_end}
+use Rattle.firing.specs.declared.linking.RowChains.{RowChains}
+use Rattle.firing.specs.Linked.{Linked}
+use Rattle.firing.specs.Sets.{SetsOf, Trying}
 use Rattle.firing.proofs.Fires.{in_more, more_holds}
-use Rattle.growing.proofs.Copies.{copied_sets}
+use Rattle.growing.specs.declared.trying.Growth.{Growth}
+use Rattle.growing.specs.declared.trying.Grown.{Grown}
+use Rattle.growing.specs.declared.trying.Lists.{Lists}
+use Rattle.growing.specs.Kept.{AllSettled, Growing, Copied, Same, Settling}
 
-pub state_tried : {image : List ℕ} {X q Y : ℕ} → Below X q Y → q < states_of image → (there : Bool) → there ≡ member q X → there ≡ false
-    → (more : ℕ) → more ≡ union Y (single q) → Trying image X q Y more
-state_tried {X = X} {q = q} below l there test new more put =
-    record { below = below; known = l; new = λ m. fails (sym test ∙ new) ((member_means q X).1 m); is = put }
+pub state_few : {N : ℕ} {image : List ℕ} {X q count : ℕ} {rows : RowChains N} → Linked image X count rows → q < states_of image → q < 64
+state_few {image} linked l = omega (arith, (valid_kept image linked.valid).states_fit)
 
-module _ {image : List ℕ} {table : List Blocker} {below X q Y : ℕ} {sets next near ends : List ℕ}
-    (growing : Growing image table below X q Y sets next near ends) where
-  module _ {head : Head} (read : ReadAs image head) (count : ℕ) (all : count ≡ head.symbols) where
-    pub copies_sets : count ≤ length sets
-    copies_sets = omega (arith, head_symbols read, growing.room.sets_fit)
+module _ {growth : Growth} {q : ℕ} {grown : Grown} {lists : Lists} (growing : Growing growth q grown lists) where
+  abbrev image : List ℕ
+  image = growth.image.now
 
-    pub copies_next : (next' : List ℕ) → length next' ≡ length next → count ≤ length next'
-    copies_next next' long = omega (arith, head_symbols read, growing.next_fits)
+  abbrev table : List Blocker
+  table = held_in growth.blockers.now
 
-  -- without the state
-  pub grows_on : (next' : List ℕ) → length next' ≡ length next → Growing image table below X (q + 1) Y sets next' near ends
-  grows_on next' long =
+  abbrev more : ℕ
+  more = union grown.set (single q)
+
+  pub state_tried : {N : ℕ} {rows : RowChains N} → Linked image growth.x (row_count_of image) rows → q < states_of image
+      → (there : Bool) → there ≡ member q growth.x → there ≡ false → Trying image q grown.set rows
+  state_tried linked l there test new =
       record {
-        states = record { inside = growing.states.inside; above = λ p l m. growing.states.above p (omega arith) m };
-        fits = growing.fits;
-        room = growing.room;
-        next_fits = omega (arith, long, growing.next_fits);
-        are = growing.are;
-        lists = growing.lists;
+        X = growth.x;
+        linked = linked;
+        below = growing.states;
+        known = l;
+        new = λ m. fails (sym test ∙ new) ((member_means q growth.x).1 m);
+      }
+
+  larger : q < states_of image → Passing.Grown image growth.x more
+  larger l = grown_more (record { inside = growing.states.inside; fits = growing.fits }) l refl
+
+  -- whether the set with the state passes
+  module _ {head : Head} (read : ReadAs image head) (more' : ℕ) (put : more' ≡ more) (lacks : Bool) (test : lacks ≡ subset head.initial more') where
+    pub keeps_initial : lacks ≡ true → false ≡ passes (system_of image) table growth.below.0 growth.x more
+    keeps_initial t = pass_initial image table growth.below.0 growth.x more read lacks (test ∙ ap (subset head.initial) put) t
+
+    pub keeps_rest : {N : ℕ} {rows : RowChains N} → Trying image q grown.set rows → lacks ≡ false → (r : Bool)
+        → r ≡ all_settled image table growth.below.0 more' → r ≡ passes (system_of image) table growth.below.0 growth.x more
+    keeps_rest trying f r e =
+        pass_grown image table growth.below.0 growth.x more read (larger trying.known) lacks r (test ∙ ap (subset head.initial) put) f
+        (e ∙ ap (all_settled image table growth.below.0) put)
+
+  pub settling : (next' : List ℕ) (more' : ℕ) → more' ≡ more → SetsOf image more next'
+      → Settling growth (record { set = grown.set; sets = grown.sets; next = next' }) more' lists
+  settling next' more' put are =
+      record {
+        inside = growing.states.inside;
+        larger = rw put (more_holds grown.set q);
+        room = record { sets_fit = growing.room.sets_fit; next_fits = are.room; ends_fit = growing.room.ends_fit };
+        were = growing.are;
+        are = rw put are;
+        near = growing.near;
         settled = growing.settled;
       }
 
-  pub grows_same : Growing image table below X (q + 1) Y sets next near ends
-  grows_same = grows_on next refl
+  -- what comes of the set
+  module _ {grown' : Grown} (same : Same grown grown') (there : Bool) (test : there ≡ member q growth.x) (new : there ≡ false) (r : Bool)
+      (passed : r ≡ passes (system_of image) table growth.below.0 growth.x more) where
+    pub set_left : r ≡ false → grown'.set ≡ with_state (system_of image) table growth.below.0 growth.x q grown.set
+    set_left f = same.set ∙ state_left (system_of image) table growth.below.0 growth.x q grown.set there test more r refl passed new f
 
-  -- with the state
-  module _ {more : ℕ} (trying : Trying image X q Y more) where
-    pub grown : Grown image X more
-    grown = grown_more (record { inside = growing.states.inside; fits = growing.fits }) trying.known trying.is
+    module _ (kept : r ≡ true) (more' : ℕ) (put : more' ≡ union grown'.set (single q)) where
+      is_more : more' ≡ more
+      is_more = put ∙ ap (λ (Y : ℕ). union Y (single q)) same.set
 
-    pub settling : (next' : List ℕ) → SetsOf image more next' → Settling image table below X Y more sets next' near ends
-    settling next' are =
-        record {
-          inside = growing.states.inside;
-          larger = more_holds trying;
-          ends_fit = growing.room.ends_fit;
-          were = growing.are;
-          are = are;
-          lists = growing.lists;
-          settled = growing.settled;
-        }
+      pub set_kept : more' ≡ with_state (system_of image) table growth.below.0 growth.x q grown.set
+      set_kept = is_more ∙ state_kept (system_of image) table growth.below.0 growth.x q grown.set there test more r refl passed new kept
 
-    all_settled : passes (system_of image) table below X more ≡ true → AllSettled image table below more
-    unfolding passes
-    all_settled e =
-        record {
-          each = λ s l.
-              each_from_at (λ s. Machine.settled (initial_of image) table below more (backward (rows_of image s) more)) (symbols_of image) 0
-              (and_right _ _ (and_right _ _ (and_right _ _ (holds e)))) s (omega arith) (omega arith);
-        }
+      all_pass : AllSettled image table growth.below.0 more
+      unfolding passes
+      all_pass =
+          record {
+            each = λ s l.
+                each_from_at (λ s. Machine.settled (initial_of image) table growth.below.0 more (backward (rows_of image s) more)) (symbols_of image) 0
+                (and_right _ _ (and_right _ _ (and_right _ _ (holds (sym passed ∙ kept))))) s (omega arith) (omega arith);
+          }
 
-    pub grows : {head : Head} → ReadAs image head → (r : Bool) (count : ℕ) (sets' next' : List ℕ)
-        → r ≡ passes (system_of image) table below X more → (r ≡ true → SetsOf image more next') → r ≡ true → count ≡ head.symbols
-        → Copied count next' sets' → length sets' ≡ length sets → length next' ≡ length next → Growing image table below X (q + 1) more sets' next' near ends
-    grows read r count sets' next' test made kept all copied sets_long next_long =
-        record {
-          states = record { inside = grown.inside; above = λ p l m. above p l (in_more trying p m) };
-          fits = grown.fits;
-          room = record {
-            sets_fit = omega (arith, sets_long, growing.room.sets_fit);
-            near_narrow = growing.room.near_narrow;
-            ends_fit = growing.room.ends_fit;
-          };
-          next_fits = omega (arith, next_long, growing.next_fits);
-          are = copied_sets (made kept) copied (all ∙ head_symbols read) (omega (arith, sets_long, growing.room.sets_fit));
-          lists = growing.lists;
-          settled = all_settled (sym test ∙ kept);
-        }
-      where
-        above : (p : ℕ) → q + 1 ≤ p → Member p Y ⊎ (p ≡ q) → Member p X
-        above p l (inl i) = growing.states.above p (omega arith) i
-        above p l (inr e) = absurd (omega arith)
+      pub grows : {head : Head} → ReadAs image head → q < states_of image → (count : ℕ) (sets' : List ℕ) → count ≡ head.symbols
+          → (r ≡ true → SetsOf image more grown'.next) → Copied count grown'.next sets'
+          → Growing growth (q + 1) (record { set = more'; sets = sets'; next = grown'.next }) lists
+      grows {head} read l count sets' all made copied =
+          record {
+            states = record { inside = rw is_more (larger l).inside; above = λ p l m. above p l (in_more grown.set q p (subst (Member p) is_more m)) };
+            fits = rw is_more (larger l).fits;
+            room = record { sets_fit = sets_fit; next_fits = (made kept).room; ends_fit = growing.room.ends_fit };
+            are = rw is_more (record { room = sets_fit; are = λ s l. copied.same s (omega (arith, all, head_symbols read)) ∙ (made kept).are s l });
+            near = growing.near;
+            settled = rw is_more all_pass;
+          }
+        where
+          sets_fit : symbols_of image ≤ length sets'
+          sets_fit = omega (arith, copied.long, (valid_kept image read.valid).symbols_fit)
+
+          above : (p : ℕ) → q + 1 ≤ p → Member p grown.set ⊎ (p ≡ q) → Member p growth.x
+          above p l (inl i) = growing.states.above p (omega arith) i
+          above p l (inr e) = absurd (omega arith)
 
 -- the walk over the states, before state q
-pub record StatesTrying (image : List ℕ) (table : List Blocker) (below X states q Y : ℕ) (sets₀ next₀ sets next near ends : List ℕ) : Type 0 where
-  pub tried : StatesTried image table below X states q Y
-  pub growing : Growing image table below X q Y sets next near ends
-  pub sets_long : length sets ≡ length sets₀
-  pub next_long : length next ≡ length next₀
+pub record StatesTrying (growth : Growth) (states q : ℕ) (grown : Grown) (lists : Lists) : Type 0 where
+  pub tried : StatesTried growth.image.now (held_in growth.blockers.now) growth.below.0 growth.x states q grown.set
+  pub growing : Growing growth q grown lists
 
-pub tries_start : {image : List ℕ} {head : Head} {table : List Blocker} {below X : ℕ} {sets next near ends : List ℕ} → ReadAs image head
-    → GrowthBegun image table below X sets near ends → T (within (states_of image) X) → symbols_of image ≤ length next
-    → StatesTrying image table below X head.states 0 X sets next sets next near ends
-tries_start {X = X} read begun fits room =
+pub tries_start : {growth : Growth} {head : Head} {grown : Grown} {lists : Lists} → ReadAs growth.image.now head → Growing growth 0 grown lists
+    → StatesTrying growth head.states 0 grown lists
+tries_start {growth} {head} {grown} read growing =
     record {
-      tried = states_start read fits;
-      growing = record {
-        states = record { inside = subset_reflexive X; above = λ p l m. m };
-        fits = fits;
-        room = begun.room;
-        next_fits = room;
-        are = begun.are;
-        lists = begun.lists;
-        settled = begun.settled;
-      };
-      sets_long = refl;
-      next_long = refl;
+      tried = subst (λ (Y : ℕ). StatesTried growth.image.now (held_in growth.blockers.now) growth.below.0 growth.x head.states 0 Y) same
+          (states_start read (subst (λ (Y : ℕ). T (within (states_of growth.image.now) Y)) (sym same) growing.fits));
+      growing = growing;
     }
+  where
+    same : growth.x ≡ grown.set
+    same =
+        subset_antisymmetric growth.x grown.set growing.states.inside
+        (members_subset grown.set growth.x (λ p m. growing.states.above p (omega arith) m))
 
-module _ {image : List ℕ} {table : List Blocker} {below X states q Y : ℕ} {sets₀ next₀ sets next near ends : List ℕ}
-    (so_far : StatesTrying image table below X states q Y sets₀ next₀ sets next near ends) where
-  pub tries_go : (more : ℕ) (sets' next' : List ℕ) → q < states → more ≡ with_state (system_of image) table below X q Y
-      → Growing image table below X (q + 1) more sets' next' near ends → length sets' ≡ length sets → length next' ≡ length next
-      → StatesTrying image table below X states (q + 1) more sets₀ next₀ sets' next' near ends
-  tries_go more sets' next' l e growing s n =
-      record {
-        tried = states_go so_far.tried more l e;
-        growing = growing;
-        sets_long = s ∙ so_far.sets_long;
-        next_long = n ∙ so_far.next_long;
-      }
+module _ {growth : Growth} {states q : ℕ} {grown : Grown} {lists : Lists} (so_far : StatesTrying growth states q grown lists) where
+  pub tries_go : (grown' : Grown) → q < states
+      → grown'.set ≡ with_state (system_of growth.image.now) (held_in growth.blockers.now) growth.below.0 growth.x q grown.set
+      → Growing growth (q + 1) grown' lists → StatesTrying growth states (q + 1) grown' lists
+  tries_go grown' l e growing = record { tried = states_go so_far.tried grown'.set l e; growing = growing }
 
-  pub tries_end : states ≤ q → Y ≡ by_states (system_of image) table below X
+  pub tries_end : states ≤ q → grown.set ≡ by_states (system_of growth.image.now) (held_in growth.blockers.now) growth.below.0 growth.x
   tries_end l = states_end so_far.tried l

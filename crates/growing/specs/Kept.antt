@@ -4,7 +4,11 @@ use Rattle.masks.specs.Sets.{subset, within}
 use Rattle.automata.specs.Image.{states_of, symbols_of, initial_of, rows_of}
 use Rattle.automata.specs.Automaton.{backward}
 use Rattle.machine.specs.Machine.{Blocker, settled}
+use Rattle.blockers.specs.Tables.{held_in}
 use Rattle.firing.specs.Sets.{SetsOf, Below}
+use Rattle.growing.specs.declared.trying.Growth.{Growth}
+use Rattle.growing.specs.declared.trying.Grown.{Grown}
+use Rattle.growing.specs.declared.trying.Lists.{Lists}
 use Rattle.growing.specs.Near.{Near}
 
 -- each backward set of Y is inside Y or blocked below
@@ -12,38 +16,37 @@ pub record AllSettled (image : List ℕ) (table : List Blocker) (below Y : ℕ) 
   pub each : (s : ℕ) → s < symbols_of image → T (settled (initial_of image) table below Y (backward (rows_of image s) Y))
 
 -- the tables have places for all symbols
-pub record SymbolRoom (image sets near ends : List ℕ) : Type 0 where
-  pub sets_fit : symbols_of image ≤ length sets
-  pub near_narrow : length near < 65535
-  pub ends_fit : suc (symbols_of image) ≤ length ends
+pub record SymbolRoom (image : List ℕ) (grown : Grown) (lists : Lists) : Type 0 where
+  pub sets_fit : symbols_of image ≤ length grown.sets
+  pub next_fits : symbols_of image ≤ length grown.next
+  pub ends_fit : suc (symbols_of image) ≤ length lists.ends
 
--- the sets of X, all of them settled, and the lists of what covers them
-pub record GrowthBegun (image : List ℕ) (table : List Blocker) (below X : ℕ) (sets near ends : List ℕ) : Type 0 where
-  pub room : SymbolRoom image sets near ends
-  pub are : SetsOf image X sets
-  pub lists : Near image table below X near ends
-  pub settled : AllSettled image table below X
-
--- what is known of Y, which has grown from X by states below q, and of the tables
-pub record Growing (image : List ℕ) (table : List Blocker) (below X q Y : ℕ) (sets next near ends : List ℕ) : Type 0 where
-  pub states : Below X q Y
-  pub fits : T (within (states_of image) Y)
-  pub room : SymbolRoom image sets near ends
-  pub next_fits : symbols_of image ≤ length next
-  pub are : SetsOf image Y sets
-  pub lists : Near image table below X near ends
-  pub settled : AllSettled image table below Y
+-- what is known of the set, which has grown by states below q, and of the tables
+pub record Growing (growth : Growth) (q : ℕ) (grown : Grown) (lists : Lists) : Type 0 where
+  pub states : Below growth.x q grown.set
+  pub fits : T (within (states_of growth.image.now) grown.set)
+  pub room : SymbolRoom growth.image.now grown lists
+  pub are : SetsOf growth.image.now grown.set grown.sets
+  pub near : Near growth.image.now (held_in growth.blockers.now) growth.below.0 growth.x lists.near lists.ends
+  pub settled : AllSettled growth.image.now (held_in growth.blockers.now) growth.below.0 grown.set
 
 -- the first `count` places are the same
 pub record Copied (count : ℕ) (from to : List ℕ) : Type 0 where
   pub same : (j : ℕ) → j < count → get_or to j 0 ≡ get_or from j 0
+  pub long : length to ≡ 64
 
--- the sets of Y, which are settled, and those of a larger set
-pub record Settling (image : List ℕ) (table : List Blocker) (below X Y more : ℕ) (before sets near ends : List ℕ) : Type 0 where
-  pub inside : T (subset X Y)
-  pub larger : T (subset Y more)
-  pub ends_fit : suc (symbols_of image) ≤ length ends
-  pub were : SetsOf image Y before
-  pub are : SetsOf image more sets
-  pub lists : Near image table below X near ends
-  pub settled : AllSettled image table below Y
+-- but for the sets that are tried
+pub record Same (before grown : Grown) : Type 0 where
+  pub set : grown.set ≡ before.set
+  pub sets : grown.sets ≡ before.sets
+  pub next_long : length grown.next ≡ length before.next
+
+-- the sets of the set so far, which are settled, and those of a larger set
+pub record Settling (growth : Growth) (grown : Grown) (more : ℕ) (lists : Lists) : Type 0 where
+  pub inside : T (subset growth.x grown.set)
+  pub larger : T (subset grown.set more)
+  pub room : SymbolRoom growth.image.now grown lists
+  pub were : SetsOf growth.image.now grown.set grown.sets
+  pub are : SetsOf growth.image.now more grown.next
+  pub near : Near growth.image.now (held_in growth.blockers.now) growth.below.0 growth.x lists.near lists.ends
+  pub settled : AllSettled growth.image.now (held_in growth.blockers.now) growth.below.0 grown.set

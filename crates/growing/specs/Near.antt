@@ -1,22 +1,16 @@
 -- The lists of what covers the backward sets of X, one for each symbol. Assumes nothing: these are definitions.
-use Rattle.std.specs.Prelude.{ℕ, zero, suc, ◌-◌, ◌≤◌, ◌<◌, ◌≡◌, List, T, length, get_or}
+use Rattle.std.specs.Prelude.{ℕ, suc, ◌<◌, List, T, get_or, Option, None}
 use Rattle.masks.specs.Sets.{subset}
 use Rattle.automata.specs.Image.{symbols_of, initial_of, rows_of}
 use Rattle.automata.specs.Automaton.{backward}
-use Rattle.machine.specs.Machine.{Blocker, blocked}
-use Rattle.covering.specs.Listed.{one_holds}
+use Rattle.machine.specs.Machine.{Blocker}
+use Rattle.covering.specs.Listed.{part, Tells}
 
--- whether a case that contains P is blocked is told by the list, where there is one
-abbrev pub Tells : ℕ → List Blocker → ℕ → ℕ → List ℕ → ℕ → ℕ → Type 0
-Tells initial table below P near from to =
-    to ≤ length near → (case : ℕ) → T (subset P case) → one_holds near from (to - from) case ≡ blocked initial table below case
+-- the list of symbol s, which ends where `ends` says at s + 1 and begins where it says at s
+abbrev pub list_of : List ℕ → List (Option ℕ) → ℕ → Option (List ℕ)
+list_of near ends s = part near (get_or ends s None) (get_or ends (suc s) None)
 
--- so for the backward set of X by each symbol: the list of symbol s ends where `ends` says at s + 1, and begins where it says at s
-pub record Near (image : List ℕ) (table : List Blocker) (below X : ℕ) (near ends : List ℕ) : Type 0 where
-  pub tells : (s : ℕ) → s < symbols_of image
-      → Tells (initial_of image) table below (backward (rows_of image s) X) near (get_or ends s 0) (get_or ends (suc s) 0)
-
--- where the first list begins; at level 0 no blocker covers a case, and there are no lists
-unfoldable pub first_place : ℕ → ℕ
-first_place zero = 65535
-first_place (suc below) = 0
+-- whether a case that contains the backward set of X by a symbol is blocked is told by the symbol's list, where there is one
+pub record Near (image : List ℕ) (table : List Blocker) (below X : ℕ) (near : List ℕ) (ends : List (Option ℕ)) : Type 0 where
+  pub tells : (s : ℕ) → s < symbols_of image → (case : ℕ) → T (subset (backward (rows_of image s) X) case)
+      → Tells (initial_of image) table below (list_of near ends s) case

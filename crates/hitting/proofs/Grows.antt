@@ -1,10 +1,9 @@
 -- The whole growth: the table has room for the sets, they are few enough to count, and what is not picked is the set that X grows to. Assumes nothing.
 use Prim.Native.Nat.{ℕ, ◌≤◌, ◌<◌}
-use mathlib.Core.Path.{◌≡◌, refl, ap, ◌∙◌}
+use mathlib.Core.Path.{◌≡◌, ap, ◌∙◌}
 use mathlib.Core.List.{List}
 use native.Mathlib.Omega.{arith}
-use lib.ListN.{length, take, replicate}
-use lib.Seq.{length-take-le}
+use lib.ListN.{length}
 use Rattle.masks.specs.Sets.{without, full}
 use Rattle.automata.specs.Image.{row_count_of, rows_of}
 use Rattle.automata.specs.Answers.{ReadAs}
@@ -14,8 +13,8 @@ use Rattle.automata.proofs.Reading.{head_states}
 use Rattle.machine.specs.Machine.{Blocker}
 use Rattle.machine.specs.Runs.{system_of}
 use Rattle.machine.specs.Hitting.{to_meet, picked, by_hitting_set}
-use Rattle.hitting.specs.Sets.{Gathered, HasRoom}
-use Rattle.hitting.proofs.Linking.{none_slotted}
+use Rattle.hitting.specs.Sets.{Filled, held}
+use Rattle.hitting.specs.declared.gathering.Gathering.{Gathering}
 use Rattle.hitting.proofs.Few.{few_sets}
 
 module _ {image : List ℕ} {head : Head} (read : ReadAs image head) where
@@ -23,26 +22,15 @@ module _ {image : List ℕ} {head : Head} (read : ReadAs image head) where
   pub all_rows : row_count_of image < 4097
   all_rows = omega (arith, (valid_kept image read.valid).few_rows)
 
-  module _ (table : List Blocker) (below X : ℕ) (places : List ℕ) where
-    pub room_enough : (slots links : List ℕ) → row_count_of image < length places → length places < 65536 → length places ≤ length links → 1 ≤ length slots
-        → slots ≡ replicate (length slots) 0 → HasRoom 0 places slots links (to_meet (system_of image) (rows_of image) table below X)
-    room_enough slots links l narrow linked some none =
-        record {
-          used = record {
-            gathered = record { stands = refl; fits = omega arith };
-            slotted = none_slotted slots links some none;
-            links_fit = linked;
-            narrow = narrow;
-          };
-          room = omega (arith, few_sets image read.valid table below X);
-        }
+  module _ (table : List Blocker) (below X : ℕ) where
+    pub room_enough : {SETS : ℕ} → row_count_of image < SETS → length (to_meet (system_of image) (rows_of image) table below X) ≤ SETS
+    room_enough l = omega (arith, few_sets image read.valid table below X)
 
-    module _ (count : ℕ) (gathered : Gathered (to_meet (system_of image) (rows_of image) table below X) count places) where
-      pub few_enough : count < 8192
-      few_enough =
-          omega (arith, length-take-le count places gathered.fits, ap length gathered.stands, few_sets image read.valid table below X, all_rows)
+    module _ {SETS SLOTS : ℕ} (gathering : Gathering SETS SLOTS) (filled : Filled (to_meet (system_of image) (rows_of image) table below X) gathering) where
+      pub few_enough : length (held gathering) < 8192
+      few_enough = omega (arith, ap length filled.gathered.stands, few_sets image read.valid table below X, all_rows)
 
-      pub grown : (all picks result : ℕ) → all ≡ full head.states → picks ≡ picked head.states (take count places) → result ≡ without all picks
+      pub grown : (all picks result : ℕ) → all ≡ full head.states → picks ≡ picked head.states (held gathering) → result ≡ without all picks
           → result ≡ by_hitting_set (system_of image) (rows_of image) table below X
       unfolding by_hitting_set
-      grown all picks result a p r = r ∙ rw (a, p, gathered.stands, head_states read)
+      grown all picks result a p r = r ∙ rw (a, p, filled.gathered.stands, head_states read)

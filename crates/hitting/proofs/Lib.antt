@@ -1,9 +1,8 @@
 -- Laws of growing through a hitting set.
-pub mod Table
-pub mod Covering
-pub mod Linking
-pub mod Gathers
 pub mod Planes
 pub mod Picks
+pub mod Linking
+pub mod Gathers
+pub mod Covering
 pub mod Few
 pub mod Grows

@@ -1,6 +1,6 @@
 -- Counts of all states at once, as planes: what one more set makes of them, that they are the numbers of sets met, and which states narrowing leaves.
 -- Assumes nothing.
-use Prim.Native.Nat.{ℕ, zero, suc, ◌+◌, ◌-◌, ◌*◌, ◌^◌, ◌≤◌, ◌<◌, min}
+use Prim.Native.Nat.{ℕ, zero, suc, ◌+◌, ◌*◌, ◌^◌, ◌≤◌, ◌<◌, min}
 use mathlib.Core.Path.{◌≡◌, refl, sym, ap, subst, ◌∙◌}
 use mathlib.Core.Bool.{false}
 use mathlib.Core.List.{List, [], ◌∷◌, ◌++◌, append-nil}
@@ -12,19 +12,22 @@ use native.Mathlib.Omega.{arith}
 use borrow.Author.Tests.{eq-eqb, ne_eqb}
 use lib.Bits.{bit_and, bit_xor, differ, and_zero_r, xor_zero_r}
 use lib.Dec.{T}
-use lib.ListN.{length, get_or, take, drop, set, replicate, take-append-drop, length-set, drop_of_length-le}
-use lib.Seq.{length-take-le, take_all, take-suc-set, drop-cons, drop-set-lt, append_snoc, drop-length}
+use lib.ListN.{length, get_or, take, drop, set, replicate, take-append-drop, drop_of_length-le}
+use lib.Seq.{take_all, take-suc-set, drop-cons, drop-set-lt, append_snoc}
 use Rattle.lists.specs.Tests.{choose}
 use Rattle.lists.specs.Lists.{keep}
 use Rattle.lists.proofs.Tests.{is_true, is_false, choose_true, choose_false}
-use Rattle.lists.proofs.Lists.{keep_length}
+use Rattle.lists.proofs.Lists.{keep_length, drop_first}
 use Rattle.masks.specs.Sets.{digit, Member, member, subset, full, absent, lowest_absent}
 use Rattle.masks.proofs.Digits.{digit_and, digit_xor, digit_zero, digit_above}
 use Rattle.masks.proofs.Laws.{member_means, subset_members, empty_members, no_members, full_members, absent_means, lowest_found}
 use Rattle.machine.specs.Hitting.{meets}
 use Rattle.machine.proofs.Greedy.{best_one}
+use Rattle.std.specs.List.{fold}
+use Rattle.std.specs.Prelude.{reverse}
+use Rattle.std.proofs.lemmas.List.{set-get_or, reverse-append}
+use Rattle.std.proofs.lemmas.List.Sums.{fold-append}
 use Rattle.hitting.specs.Sets.{with_carry, count_all, narrowed, highest, Best}
-use Rattle.hitting.proofs.Table.{next_set, no_set}
 
 -- no carry changes no plane
 carry_nothing : (planes : List ℕ) → with_carry 0 planes ≡ planes
@@ -34,18 +37,14 @@ carry_nothing (plane ∷ planes) = rw (xor_zero_r plane, and_zero_r plane, carry
 
 -- the carry on its way, at plane j: the planes before it have the set counted, and it is to be added to the others
 pub record Carrying (before : List ℕ) (one carry j : ℕ) (planes : List ℕ) : Type 0 where
-  pub same : length planes ≡ length before
   pub whole : take j planes ++ with_carry carry (drop j planes) ≡ with_carry one before
-
--- it is the set, before the first plane
-pub carry_starts : {planes : List ℕ} {one : ℕ} → Carrying planes one one 0 planes
-carry_starts = record { same = refl; whole = refl }
 
 module _ {before : List ℕ} {one carry j : ℕ} {planes : List ℕ} (so_far : Carrying before one carry j planes) where
   -- nothing is carried on: the set is counted
-  pub carry_stops : carry ≡ 0 → planes ≡ with_carry one before
+  pub carry_stops : carry ≡ 0 → set planes j (get_or planes j 0) ≡ with_carry one before
   carry_stops z =
-      sym (take-append-drop j planes)
+      set-get_or planes j 0
+      ∙ sym (take-append-drop j planes)
       ∙ ap (λ (rest : List ℕ). take j planes ++ rest) (sym (carry_nothing (drop j planes)))
       ∙ ap (λ (c : ℕ). take j planes ++ with_carry c (drop j planes)) (sym z)
       ∙ so_far.whole
@@ -56,7 +55,6 @@ module _ {before : List ℕ} {one carry j : ℕ} {planes : List ℕ} (so_far : C
   unfolding with_carry
   carry_goes l =
       record {
-        same = length-set planes j sum ∙ so_far.same;
         whole =
             ap (λ (k : ℕ). take k after ++ with_carry both (drop k after)) (add-one j)
             ∙ ap (λ (rest : List ℕ). take (suc j) after ++ with_carry both rest) (drop-set-lt (suc j) planes j sum (omega arith))
@@ -85,34 +83,24 @@ module _ {before : List ℕ} {one carry j : ℕ} {planes : List ℕ} (so_far : C
       ∙ so_far.whole
 
 -- the sets counted on the way, at place i: those from there on are still to be
-pub record CountingSets (before sets : List ℕ) (count i : ℕ) (planes : List ℕ) : Type 0 where
-  pub same : length planes ≡ length before
-  pub fits : count ≤ length sets
-  pub rest : count_all planes (drop i (take count sets)) ≡ count_all before (take count sets)
+pub record CountingSets (before sets : List ℕ) (i : ℕ) (planes : List ℕ) : Type 0 where
+  pub rest : count_all planes (drop i sets) ≡ count_all before sets
 
--- none is counted, before the first
-pub counts_start : {planes sets : List ℕ} {count : ℕ} → count ≤ length sets → CountingSets planes sets count 0 planes
-counts_start l = record { same = refl; fits = l; rest = refl }
-
-module _ {before sets : List ℕ} {count i : ℕ} {planes : List ℕ} (so_far : CountingSets before sets count i planes) where
+module _ {before sets : List ℕ} {i : ℕ} {planes : List ℕ} (so_far : CountingSets before sets i planes) where
   -- one set more
-  pub counts_go : (after : List ℕ) → i < count → after ≡ with_carry (get_or sets i 0) planes → length after ≡ length planes
-      → CountingSets before sets count (i + 1) after
+  pub counts_go : (after : List ℕ) → i < length sets → after ≡ with_carry (get_or sets i 0) planes → CountingSets before sets (i + 1) after
   unfolding count_all
-  counts_go after l e long =
-      record {
-        same = long ∙ so_far.same;
-        fits = so_far.fits;
-        rest =
-            ap (λ (now : List ℕ). count_all now (drop (i + 1) (take count sets))) e
-            ∙ ap (count_all planes) (sym (next_set sets count i so_far.fits l))
-            ∙ so_far.rest;
-      }
+  counts_go after l e = record {
+    rest =
+        ap (λ (now : List ℕ). count_all now (drop (i + 1) sets)) e
+        ∙ ap (count_all planes) (sym (drop_first sets i l))
+        ∙ so_far.rest;
+  }
 
   -- there is no further set
-  pub counts_end : count ≤ i → planes ≡ count_all before (take count sets)
+  pub counts_end : length sets ≤ i → planes ≡ count_all before sets
   unfolding count_all
-  counts_end l = ap (count_all planes) (sym (no_set sets count i so_far.fits l)) ∙ so_far.rest
+  counts_end l = ap (count_all planes) (sym (drop_of_length-le sets l)) ∙ so_far.rest
 
 -- narrowing where none of the states is in the plane, and where some are
 pub narrows_none : (states plane : ℕ) → bit_and states plane ≡ 0 → states ≡ narrowed states plane
@@ -123,34 +111,12 @@ pub narrows_some : (states plane : ℕ) → (bit_and states plane ≡ 0 → ⊥)
 unfolding narrowed
 narrows_some states plane f = sym (choose_false states (bit_and states plane) (ne_eqb (bit_and states plane) 0 f))
 
--- narrowing on its way: the states left by the planes from j on
-pub record Narrowing (states : ℕ) (planes : List ℕ) (left j : ℕ) : Type 0 where
-  pub fits : j ≤ length planes
-  pub is : left ≡ highest states (drop j planes)
-
--- all are left, behind the last plane
-pub narrowing_starts : {states : ℕ} {planes : List ℕ} → Narrowing states planes states (length planes)
+-- narrowing by plane after plane, from the last to the first
+pub highest_folded : (states : ℕ) (planes : List ℕ) → fold narrowed states (reverse planes) ≡ highest states planes
 unfolding highest
-narrowing_starts {states} {planes} = record { fits = omega arith; is = ap (highest states) (sym (drop-length planes)) }
-
-module _ {states : ℕ} {planes : List ℕ} {left j : ℕ} (so_far : Narrowing states planes left j) where
-  -- one plane more
-  pub narrowing_goes : (fewer : ℕ) → 0 < j → fewer ≡ narrowed left (get_or planes (j - 1) 0) → Narrowing states planes fewer (j - 1)
-  unfolding highest
-  narrowing_goes fewer l e =
-      let back : suc (j - 1) ≡ j = omega arith in
-      record {
-        fits = omega (arith, so_far.fits);
-        is =
-            e
-            ∙ ap (λ (most : ℕ). narrowed most (get_or planes (j - 1) 0)) so_far.is
-            ∙ ap (λ (k : ℕ). narrowed (highest states (drop k planes)) (get_or planes (j - 1) 0)) (sym back)
-            ∙ ap (highest states) (sym (drop-cons planes (j - 1) 0 (omega (arith, so_far.fits))));
-      }
-
-  -- there is no further plane
-  pub narrowing_ends : j ≤ 0 → left ≡ highest states planes
-  narrowing_ends l = let none : j ≡ 0 = omega arith in so_far.is ∙ ap (λ (k : ℕ). highest states (drop k planes)) none
+highest_folded states [] = refl
+highest_folded states (plane ∷ planes) =
+    ap (fold narrowed states) (reverse-append (plane ∷ []) planes) ∙ fold-append narrowed states (reverse planes) (plane ∷ []) ∙ ap (λ (left : ℕ). narrowed left plane) (highest_folded states planes)
 
 -- the count of a state that the planes hold
 unfoldable tally : ℕ → List ℕ → ℕ
@@ -292,14 +258,14 @@ module _ (n : ℕ) (planes : List ℕ) (states left : ℕ) (all : states ≡ ful
       empty t = no_members left (λ q i. empty_members q (subset_members left 0 t q i))
 
   -- and with all sets counted the lowest is the one to pick
-  pub lowest_highest : (sets : List ℕ) (count state : ℕ) → left < 2 ^ 64 → count ≤ length sets → count < 8192
-      → planes ≡ count_all (replicate 13 0) (take count sets) → lowest_absent left 0 ≡ some state → Best n (take count sets) state
-  lowest_highest sets count state narrow_left fits few counted e =
+  pub lowest_highest : (sets : List ℕ) (state : ℕ) → left < 2 ^ 64 → length sets < 8192 → planes ≡ count_all (replicate 13 0) sets
+      → lowest_absent left 0 ≡ some state → Best n sets state
+  lowest_highest sets state narrow_left few counted e =
       record {
-        is_best = best_one n state (take count sets) (record {
+        is_best = best_one n state sets (record {
           is_state = state_of state chosen;
           most = λ q l. omega (arith, counts q, counts state, left_highest.most state q chosen (of_state q l));
-          lowest = λ q l. at q l (dec_le (meets (take count sets) state) (meets (take count sets) q));
+          lowest = λ q l. at q l (dec_le (meets sets state) (meets sets q));
         });
         fits = digit_above 64 left narrow_left state chosen;
       }
@@ -307,8 +273,8 @@ module _ (n : ℕ) (planes : List ℕ) (states left : ℕ) (all : states ≡ ful
       left_highest : Highest states planes left
       left_highest = subst (Highest states planes) (sym narrow) (highest_left states planes)
 
-      counts : (q : ℕ) → tally q planes ≡ meets (take count sets) q
-      counts q = ap (tally q) counted ∙ tally_meets q (take count sets) (omega (arith, length-take-le count sets fits))
+      counts : (q : ℕ) → tally q planes ≡ meets sets q
+      counts q = ap (tally q) counted ∙ tally_meets q sets few
 
       found : T (absent left 0 state) × ((p : ℕ) → p < state → T (absent left 0 p) → ⊥)
       found = lowest_found left 0 state e
@@ -322,8 +288,8 @@ module _ (n : ℕ) (planes : List ℕ) (states left : ℕ) (all : states ≡ ful
       state_of : (q : ℕ) → Member q left → q < n
       state_of q i = (full_members n q).0 (subst (Member q) all (left_highest.inside q i))
 
-      at : (q : ℕ) → q < state → Dec (meets (take count sets) state ≤ meets (take count sets) q)
-          → meets (take count sets) q < meets (take count sets) state
+      at : (q : ℕ) → q < state → Dec (meets sets state ≤ meets sets q)
+          → meets sets q < meets sets state
       at q l (no k) = omega arith
       at q l (yes k) =
           let tie = left_highest.ties state q chosen (of_state q (omega (arith, state_of state chosen))) (omega (arith, counts q, counts state)) in

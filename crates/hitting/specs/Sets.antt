@@ -7,23 +7,29 @@ use Rattle.machine.specs.System.{System}
 use Rattle.machine.specs.Machine.{Blocker}
 use Rattle.machine.specs.Hitting.{RowSource, cover, cases_outside, with_cases, best}
 use Rattle.hitting.specs.Slots.{Slotted}
+use Rattle.hitting.specs.declared.gathering.Gathering.{Gathering}
 
 -- the first `count` places of the table hold the sets
 pub record Gathered (sets : List ℕ) (count : ℕ) (table : List ℕ) : Type 0 where
   pub stands : take count table ≡ sets
   pub fits : count ≤ length table
 
--- and slots and links are theirs, with a link for each place of the table; places are told in 16 bits
-pub record Filled (sets : List ℕ) (count : ℕ) (table slots links : List ℕ) : Type 0 where
-  pub gathered : Gathered sets count table
-  pub slotted : Slotted sets slots links
-  pub links_fit : length table ≤ length links
-  pub narrow : length table < 65536
+-- the sets so far
+abbrev pub held : {SETS SLOTS : ℕ} → Gathering SETS SLOTS → List ℕ
+held gathering = take gathering.count gathering.sets
 
--- the first places are filled so, and the table has room for these sets
-pub record HasRoom (count : ℕ) (table slots links sets : List ℕ) : Type 0 where
-  pub used : Filled (take count table) count table slots links
-  pub room : length sets ≤ length table
+-- the table holds these sets, and they are chained by their slots, with a link for each place; places are told in 16 bits
+pub record Filled {SETS SLOTS : ℕ} (sets : List ℕ) (gathering : Gathering SETS SLOTS) : Type 0 where
+  pub gathered : Gathered sets gathering.count gathering.sets
+  pub slotted : Slotted sets gathering.slots gathering.links
+  pub places : length gathering.sets ≡ SETS
+  pub links : length gathering.links ≡ SETS
+  pub narrow : SETS < 65536
+
+-- the table holds the sets so far, and has room for these
+pub record HasRoom {SETS SLOTS : ℕ} (gathering : Gathering SETS SLOTS) (sets : List ℕ) : Type 0 where
+  pub used : Filled (held gathering) gathering
+  pub room : length sets ≤ SETS
 
 -- the sets, with what is left of the cases of these rows whose state is outside b
 abbrev pub with_row_cases : ℕ → ℕ → List ℕ → List Row → List ℕ

@@ -11,31 +11,27 @@ fn count_set(planes: &mut [u64], set: u64)
     ensures { planes.new ≡ with_carry set planes.old }
 {
     let mut carry = set;
-    let mut j: usize = 0;
-    while j < planes.len() {
+    for plane in planes.iter_mut() {
         if carry == 0 {
             return;
         }
-        let plane = planes[j];
-        planes[j] = plane ^ carry;
-        carry = plane & carry;
-        j += 1;
+        let both = *plane & carry;
+        *plane ^= carry;
+        carry = both;
     }
 }
 
-// One more for each state of each of the first `count` sets.
-fn count_sets(planes: &mut [u64], sets: &[u64], count: usize)
-    requires { count ≤ length sets.now }
-    ensures { planes.new ≡ count_all planes.old (take count sets.now) }
+// One more for each state of each of the sets.
+fn count_sets(planes: &mut [u64], sets: &[u64])
+    ensures { planes.new ≡ count_all planes.old sets.now }
 {
-    let mut i: usize = 0;
-    while i < count {
-        count_set(planes, sets[i]);
-        i += 1;
+    for set in sets {
+        count_set(planes, *set);
     }
 }
 
 // Those of the states that are in the plane, if one is.
+#[tactic(auto, using(crate::proofs::Planes::narrows_none, crate::proofs::Planes::narrows_some))]
 fn narrow(states: u64, plane: u64) -> u64
     ensures { result ≡ narrowed states plane }
 {
@@ -50,35 +46,30 @@ fn narrow(states: u64, plane: u64) -> u64
 fn highest(states: u64, planes: &[u64]) -> u64
     ensures { result ≡ highest_of states planes.now }
 {
-    let mut left = states;
-    let mut j = planes.len();
-    while 0 < j {
-        j -= 1;
-        left = narrow(left, planes[j]);
-    }
-    left
+    planes
+        .iter()
+        .rev()
+        .fold(states, |left, plane| narrow(left, *plane))
 }
 
-// The state below n that meets most of the first `count` sets, the lowest of these.
-fn best(n: u8, sets: &[u64], count: usize) -> State
-    requires { (1 ≤ n) × (n ≤ 64) × (count ≤ length sets.now) × (count < 8192) }
-    ensures { Best n (take count sets.now) result.0 }
+// The state below n that meets most of the sets, the lowest of these.
+fn best(n: u8, sets: &[u64]) -> State
+    requires { (1 ≤ n) × (n ≤ 64) × (length sets.now < 8192) }
+    ensures { Best n sets.now result.0 }
 {
     let mut planes = [0u64; 13];
-    count_sets(&mut planes, sets, count);
+    count_sets(&mut planes, sets);
     masks::lowest_absent(highest(masks::full(n), &planes), 0)
 }
 
-// Of the first `count` sets those without the state close up; answers how many they are.
-fn keep_unmet(sets: &mut [u64], count: usize, q: State) -> usize
-    requires { (count ≤ length sets.old) × (q.0 < 64) }
-    ensures { Gathered (unmet q.0 (take count sets.old)) result sets.new }
+// The sets without the state close up; answers how many they are. They close up in the table that is lent: there is no heap for another.
+fn keep_unmet(sets: &mut [u64], q: State) -> usize
+    requires { q.0 < 64 }
+    ensures { Gathered (unmet q.0 sets.old) result sets.new }
 {
     let mut kept: usize = 0;
-    let mut i: usize = 0;
-    while i < count {
+    for i in 0..sets.len() {
         let set = sets[i];
-        i += 1;
         if masks::member(q, set) {
             continue;
         }
@@ -88,22 +79,21 @@ fn keep_unmet(sets: &mut [u64], count: usize, q: State) -> usize
     kept
 }
 
-// The states picked until the first `count` sets are all met. The table is used up.
-pub(crate) fn pick(n: u8, sets: &mut [u64], count: usize) -> u64
-    requires { (1 ≤ n) × (n ≤ 64) × (count ≤ length sets.old) × (count < 8192) }
-    ensures { result ≡ picked_states n (take count sets.old) }
+// The states picked until the sets are all met. The table is used up. There are as many turns as sets, and not as many as it takes: that each pick meets a set
+// is more than what `best` says.
+pub(crate) fn pick(n: u8, sets: &mut [u64]) -> u64
+    requires { (1 ≤ n) × (n ≤ 64) × (length sets.old < 8192) }
+    ensures { result ≡ picked_states n sets.old }
 {
-    let mut left = count;
+    let mut left = sets.len();
     let mut picked: u64 = 0;
-    let mut turn: usize = 0;
-    while turn < count {
+    for _turn in 0..sets.len() {
         if left == 0 {
             return picked;
         }
-        let q = best(n, sets, left);
-        left = keep_unmet(sets, left, q);
+        let q = best(n, &sets[..left]);
+        left = keep_unmet(&mut sets[..left], q);
         picked = masks::insert(q, picked);
-        turn += 1;
     }
     picked
 }

@@ -1,8 +1,10 @@
-// The slots by which the sets that were gathered are chained: each set has one, which others may share.
+// The slots by which the sets are chained: each set has one, which others may share.
 ghost use Rattle.std.specs.Prelude.{◌≡◌, ◌+◌, ◌≤◌, ◌<◌, length, get_or, set as put};
+ghost use Rattle.chains.specs.Chained.{told_number};
 ghost use Rattle.hitting.specs.Slots.{mixed, slot_of};
 
 // The number from which a set's slot is taken.
+#[tactic(auto, unfolding(crate::specs::Slots::mixed))]
 fn mix(set: u64) -> u64
     ensures { result ≡ mixed set }
 {
@@ -16,13 +18,14 @@ fn slot_of(slots: &[u16], set: u64) -> usize
     requires { 1 ≤ length slots.now }
     ensures { (result ≡ slot_of (length slots.now) set) × (result < length slots.now) }
 {
+    // as Rust, std has no `From` between u64 and usize
     mix(set) as usize & (slots.len() - 1)
 }
 
-// 1 and the place of the last set that has the slot of this one, or 0.
-pub(crate) fn last_of(slots: &[u16], set: u64) -> usize
+// The place of the last set that has the slot of this one, if one has.
+pub(crate) fn last_of(slots: &[u16], set: u64) -> Option<usize>
     requires { 1 ≤ length slots.now }
-    ensures { result ≡ get_or slots.now (slot_of (length slots.now) set) 0 }
+    ensures { result ≡ told_number (get_or slots.now (slot_of (length slots.now) set) 0) }
 {
     chains::told(slots, slot_of(slots, set))
 }

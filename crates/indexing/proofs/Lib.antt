@@ -1,5 +1,4 @@
 -- Laws of the searches, the index and what leaves, by subject.
-pub mod Finding
 pub mod Listing
 pub mod Lacking
 pub mod Leavers

@@ -1,11 +1,11 @@
 -- The index: how it is gathered, and that what it lists decides whether a case is covered. Assumes nothing.
 use Prim.Native.Nat.{ℕ, zero, suc, ◌+◌, ◌-◌, ◌%◌, ◌≤◌, ◌<◌}
-use mathlib.Core.Path.{◌≡◌, refl, sym, ap, subst, ◌∙◌}
-use mathlib.Core.Bool.{Bool, true, false, not}
+use mathlib.Core.Path.{◌≡◌, sym, ap, subst, ◌∙◌}
+use mathlib.Core.Bool.{Bool, true, false}
 use mathlib.Core.List.{List, ◌∷◌}
 use native.Mathlib.Decide.{dec_le, ℕ_discrete}
 use native.Mathlib.Omega.{arith}
-use borrow.Author.Tests.{not-true, leb-false, eqb-true, eq-eqb}
+use borrow.Author.Tests.{eqb-true, eq-eqb}
 use lib.Bits.{bit_and, and_mod}
 use lib.Dec.{T, leb, leb→le}
 use lib.ListN.{length, get_or, set, length-set}
@@ -18,7 +18,7 @@ use Rattle.masks.specs.Sets.{subset}
 use Rattle.machine.specs.Machine.{Blocker, covers}
 use Rattle.machine.specs.Lent.{BlockerRoom, blocker_at, blockers_from, unstamped_room}
 use Rattle.blockers.proofs.Walks.{next_blocker, no_blocker}
-use Rattle.indexing.specs.Index.{Next, Listed, Index}
+use Rattle.indexing.specs.Index.{Passed, First, Listed, Index}
 
 -- a place that is listed stays so when another entry is written behind
 listed_more : {places : List ℕ} {end p : ℕ} (x : ℕ) → Listed places end p → Listed (set places end x) (suc end) p
@@ -28,118 +28,41 @@ listed_more {places} {end} x l = record {
   there = get_or-set_other places end l.at x 0 (λ e. omega (arith, l.below)) ∙ l.there;
 }
 
--- The gathering before a place: the places before it of this level or more are listed, and only places before it.
-pub record Gathered (level held : ℕ) (masks levels low₀ places₀ : List ℕ) (end place : ℕ) (low places : List ℕ) : Type 0 where
-  pub within : place ≤ held
-  pub in_low : end ≤ length low
-  pub in_places : end ≤ length places
-  pub long_low : length low ≡ length low₀
-  pub long_places : length places ≡ length places₀
-  pub listed : (i : ℕ) → i < end → get_or places i 0 < place
-  pub halves : (i : ℕ) → i < end → get_or low i 0 ≡ get_or masks (get_or places i 0) 0 % 4294967296
-  pub every : (p : ℕ) → p < place → level ≤ get_or levels p 0 → Listed places end p
-
-pub gather_starts : {level held : ℕ} {masks levels low places : List ℕ} → Gathered level held masks levels low places 0 0 low places
-gather_starts = record {
+-- one place more is listed
+pub gather_lists : {level place end : ℕ} {masks levels low places : List ℕ} {half : ℕ} → Index level place place end masks levels low places
+    → half ≡ get_or masks place 0 % 4294967296 → place < length masks → place < length levels → end < length low → end < length places
+    → Index level (place + 1) (place + 1) (end + 1) masks levels (set low end half) (set places end place)
+gather_lists {level} {place} {end} {masks} {levels} {low} {places} {half} so_far e in_masks in_levels in_low in_places = record {
+  in_masks = omega arith;
+  in_levels = omega arith;
+  in_low = omega (arith, length-set low end half);
+  in_places = omega (arith, length-set places end place);
   within = omega arith;
-  in_low = omega arith;
-  in_places = omega arith;
-  long_low = refl;
-  long_places = refl;
-  listed = λ i l. absurd (omega arith);
-  halves = λ i l. absurd (omega arith);
-  every = λ p l. absurd (omega arith);
+  held_places = λ i h. listed_by i h (ℕ_discrete i end);
+  halves = λ i h. halves_by i h (ℕ_discrete i end);
+  every = λ p h high. by p h high (ℕ_discrete p place);
 }
+  where
+    old_place : (i : ℕ) → (i ≡ end → ⊥) → get_or (set places end place) i 0 ≡ get_or places i 0
+    old_place i n = get_or-set_other places end i place 0 n
 
-module _ {level held : ℕ} {masks levels low₀ places₀ : List ℕ} {end place : ℕ} {low places : List ℕ}
-    (so_far : Gathered level held masks levels low₀ places₀ end place low places) where
-  pub gather_passes : {b : Bool} → place < held → b ≡ leb level (get_or levels place 0) → not b ≡ true
-      → Gathered level held masks levels low₀ places₀ end (place + 1) low places
-  gather_passes {b} l e n = record {
-    within = omega arith;
-    in_low = so_far.in_low;
-    in_places = so_far.in_places;
-    long_low = so_far.long_low;
-    long_places = so_far.long_places;
-    listed = λ i h. omega (arith, so_far.listed i h);
-    halves = so_far.halves;
-    every = λ p h high. by p h high (ℕ_discrete p place);
-  }
-    where
-      low_one : get_or levels place 0 < level
-      low_one = leb-false level (get_or levels place 0) (sym e ∙ not-true b n)
+    new_place : get_or (set places end place) end 0 ≡ place
+    new_place = get_or-set_same places end place 0 in_places
 
-      by : (p : ℕ) → p < place + 1 → level ≤ get_or levels p 0 → Dec (p ≡ place) → Listed places end p
-      by p h high (yes same) = absurd (omega (arith, low_one, ap (λ (q : ℕ). get_or levels q 0) same))
-      by p h high (no other) = so_far.every p (omega arith) high
+    listed_by : (i : ℕ) → i < end + 1 → Dec (i ≡ end) → get_or (set places end place) i 0 < place + 1
+    listed_by i h (yes same) = rw same (rw new_place (omega arith))
+    listed_by i h (no other) = rw (old_place i other) (omega (arith, so_far.held_places i (omega arith)))
 
-  pub gather_fits : end < length low → length low₀ ≡ length places₀ → end < length places
-  gather_fits l even = omega (arith, so_far.long_low, so_far.long_places)
+    halves_by : (i : ℕ) → i < end + 1 → Dec (i ≡ end)
+        → get_or (set low end half) i 0 ≡ get_or masks (get_or (set places end place) i 0) 0 % 4294967296
+    halves_by i h (yes same) = rw same (rw (new_place, get_or-set_same low end half 0 in_low) e)
+    halves_by i h (no other) = rw (old_place i other, get_or-set_other low end i half 0 other) (so_far.halves i (omega arith))
 
-  pub gather_lists : {half : ℕ} → half ≡ get_or masks place 0 % 4294967296 → end < length low → length low₀ ≡ length places₀ → place < held
-      → Gathered level held masks levels low₀ places₀ (end + 1) (place + 1) (set low end half) (set places end place)
-  gather_lists {half} e in_low even l = record {
-    within = omega arith;
-    in_low = omega (arith, length-set low end half);
-    in_places = omega (arith, length-set places end place);
-    long_low = length-set low end half ∙ so_far.long_low;
-    long_places = length-set places end place ∙ so_far.long_places;
-    listed = λ i h. listed_by i h (ℕ_discrete i end);
-    halves = λ i h. halves_by i h (ℕ_discrete i end);
-    every = λ p h high. by p h high (ℕ_discrete p place);
-  }
-    where
-      in_places : end < length places
-      in_places = gather_fits in_low even
-
-      old_place : (i : ℕ) → (i ≡ end → ⊥) → get_or (set places end place) i 0 ≡ get_or places i 0
-      old_place i n = get_or-set_other places end i place 0 n
-
-      new_place : get_or (set places end place) end 0 ≡ place
-      new_place = get_or-set_same places end place 0 in_places
-
-      listed_by : (i : ℕ) → i < end + 1 → Dec (i ≡ end) → get_or (set places end place) i 0 < place + 1
-      listed_by i h (yes same) = rw same (rw new_place (omega arith))
-      listed_by i h (no other) = rw (old_place i other) (omega (arith, so_far.listed i (omega arith)))
-
-      halves_by : (i : ℕ) → i < end + 1 → Dec (i ≡ end)
-          → get_or (set low end half) i 0 ≡ get_or masks (get_or (set places end place) i 0) 0 % 4294967296
-      halves_by i h (yes same) = rw same (rw (new_place, get_or-set_same low end half 0 in_low) e)
-      halves_by i h (no other) = rw (old_place i other, get_or-set_other low end i half 0 other) (so_far.halves i (omega arith))
-
-      by : (p : ℕ) → p < place + 1 → level ≤ get_or levels p 0 → Dec (p ≡ place) → Listed (set places end place) (end + 1) p
-      by p h high (yes same) = record { at = end; below = omega arith; there = new_place ∙ sym same }
-      by p h high (no other) =
-          let one : suc end ≡ end + 1 = omega arith in
-          subst (λ (n : ℕ). Listed (set places end place) n p) one (listed_more place (so_far.every p (omega arith) high))
-
-  module _ (in_masks : held ≤ length masks) (in_levels : held ≤ length levels) where
-    -- as far as there is room
-    pub gather_full : place < held → Index level held place end masks levels low places
-    gather_full l = record {
-      in_masks = in_masks;
-      in_levels = in_levels;
-      in_low = so_far.in_low;
-      in_places = so_far.in_places;
-      within = omega arith;
-      held_places = λ i h. omega (arith, so_far.listed i h);
-      halves = so_far.halves;
-      every = so_far.every;
-    }
-
-    pub gather_ends : held ≤ place → Index level held held end masks levels low places
-    gather_ends l =
-        let same : place ≡ held = omega (arith, so_far.within) in
-        record {
-          in_masks = in_masks;
-          in_levels = in_levels;
-          in_low = so_far.in_low;
-          in_places = so_far.in_places;
-          within = omega arith;
-          held_places = λ i h. omega (arith, so_far.listed i h);
-          halves = so_far.halves;
-          every = λ p h high. so_far.every p (omega arith) high;
-        }
+    by : (p : ℕ) → p < place + 1 → level ≤ get_or levels p 0 → Dec (p ≡ place) → Listed (set places end place) (end + 1) p
+    by p h high (yes same) = record { at = end; below = omega arith; there = new_place ∙ sym same }
+    by p h high (no other) =
+        let one : suc end ≡ end + 1 = omega arith in
+        subst (λ (n : ℕ). Listed (set places end place) n p) one (listed_more place (so_far.every p (omega arith) high))
 
 -- a set's low half is inside the low half of a set that contains it
 pub low_inside : (a b : ℕ) → T (subset a b) → subset (a % 4294967296) (b % 4294967296) ≡ true
@@ -173,62 +96,51 @@ placed_in room (suc count) at place l h = by (ℕ_discrete place at) (λ m. plac
     by (yes e) rec = here (ap (blocker_at room) e)
     by (no n) rec = there (rec (omega arith))
 
--- The search of the index for a blocker that covers the case, before entry i: none listed before it does. What is next has the case's low half.
+-- The search of the index for a blocker that covers the case, before entry i: none listed before it does.
 pub record Sought (level held upto end : ℕ) (masks levels low places : List ℕ) (case i : ℕ) : Type 0 where
   pub index : Index level held upto end masks levels low places
   pub within : i ≤ end
   pub missed : (k : ℕ) → k < i → covers level case (blocker_at (unstamped_room masks levels) (get_or places k 0)) ≡ false
 
-module _ {level held upto end : ℕ} {masks levels low places : List ℕ} (index : Index level held upto end masks levels low places) (case : ℕ) {half : ℕ}
-    (e : half ≡ case % 4294967296) where
+module _ {level held upto end : ℕ} {masks levels low places : List ℕ} {case i : ℕ} (so_far : Sought level held upto end masks levels low places case i)
+    {half : ℕ} (e : half ≡ case % 4294967296) where
   not_half : (k : ℕ) → k < end → subset half (get_or low k 0) ≡ false → covers level case (blocker_at (unstamped_room masks levels) (get_or places k 0)) ≡ false
   unfolding covers
   not_half k l f =
-      is_false _ (λ t. fails (rw (e, index.halves k l) at f)
+      is_false _ (λ t. fails (rw (e, so_far.index.halves k l) at f)
       (holds (low_inside case (get_or masks (get_or places k 0) 0) (and_right (leb level (get_or levels (get_or places k 0) 0)) _ t))))
 
-  passing : {from i : ℕ} → Next (λ other. subset half other) low from end i
-      → ((k : ℕ) → k < from → covers level case (blocker_at (unstamped_room masks levels) (get_or places k 0)) ≡ false)
-      → Sought level held upto end masks levels low places case i
-  passing {from} {i} next before = record { index = index; within = next.before.within; missed = λ k l. by k l (dec_le from k) }
+  -- past those whose low half does not contain the case's
+  missing : {r : ℕ} → Passed (λ other. subset half other) low i end r
+      → (k : ℕ) → k < r → covers level case (blocker_at (unstamped_room masks levels) (get_or places k 0)) ≡ false
+  missing before k l = by (dec_le i k)
     where
-      by : (k : ℕ) → k < i → Dec (from ≤ k) → covers level case (blocker_at (unstamped_room masks levels) (get_or places k 0)) ≡ false
-      by k l (yes m) = not_half k (omega (arith, next.before.within)) (next.before.passed k m l)
-      by k l (no m) = before k (omega arith)
+      by : Dec (i ≤ k) → covers level case (blocker_at (unstamped_room masks levels) (get_or places k 0)) ≡ false
+      by (yes m) = not_half k (omega (arith, before.within)) (before.passed k m l)
+      by (no m) = so_far.missed k (omega arith)
 
-  pub seek_starts : {i : ℕ} → Next (λ other. subset half other) low 0 end i → Sought level held upto end masks levels low places case i
-  seek_starts next = passing next (λ k l. absurd (omega arith))
-
-module _ {level held upto end : ℕ} {masks levels low places : List ℕ} {case i : ℕ} (so_far : Sought level held upto end masks levels low places case i) where
-  pub seek_place : {place : ℕ} → place ≡ get_or places i 0 → i < end → place < length masks
-  seek_place e l = omega (arith, so_far.index.held_places i l, so_far.index.in_masks)
-
-  pub seek_level : {place : ℕ} → place ≡ get_or places i 0 → i < end → place < length levels
-  seek_level e l = omega (arith, so_far.index.held_places i l, so_far.index.in_levels)
-
-  module _ {b : Bool} {place : ℕ} (l : i < end) (same_place : place ≡ get_or places i 0)
+  module _ {r : ℕ} (first : First (λ other. subset half other) low i end r) {b : Bool} {place : ℕ} (same_place : place ≡ get_or places r 0)
       (there : b ≡ covers level case (blocker_at (unstamped_room masks levels) place)) where
-    test : b ≡ covers level case (blocker_at (unstamped_room masks levels) (get_or places i 0))
+    test : b ≡ covers level case (blocker_at (unstamped_room masks levels) (get_or places r 0))
     test = there ∙ ap (λ (p : ℕ). covers level case (blocker_at (unstamped_room masks levels) p)) same_place
 
     pub seek_finds : b ≡ true → true ≡ any (covers level case) (blockers_from (unstamped_room masks levels) held 0)
     seek_finds t =
-        let below : get_or places i 0 < 0 + held = omega (arith, so_far.index.held_places i l) in
-        sym (is_true _ (some_any (covers level case) _ _ (placed_in (unstamped_room masks levels) held 0 (get_or places i 0) (omega arith) below)
+        let below : get_or places r 0 < 0 + held = omega (arith, so_far.index.held_places r first.below) in
+        sym (is_true _ (some_any (covers level case) _ _ (placed_in (unstamped_room masks levels) held 0 (get_or places r 0) (omega arith) below)
         (holds (sym test ∙ t))))
 
-    pub seek_goes : b ≡ false → {half next : ℕ} → half ≡ case % 4294967296 → Next (λ other. subset half other) low (i + 1) end next
-        → Sought level held upto end masks levels low places case next
-    seek_goes f e next = passing so_far.index case e next (λ k h. by k h (ℕ_discrete k i))
+    pub seek_goes : b ≡ false → Sought level held upto end masks levels low places case (r + 1)
+    seek_goes f = record { index = so_far.index; within = omega (arith, first.below); missed = λ k h. by k h (ℕ_discrete k r) }
       where
-        by : (k : ℕ) → k < i + 1 → Dec (k ≡ i) → covers level case (blocker_at (unstamped_room masks levels) (get_or places k 0)) ≡ false
+        by : (k : ℕ) → k < r + 1 → Dec (k ≡ r) → covers level case (blocker_at (unstamped_room masks levels) (get_or places k 0)) ≡ false
         by k h (yes same) = rw same (sym test ∙ f)
-        by k h (no other) = so_far.missed k (omega arith)
+        by k h (no other) = missing first.before k (omega arith)
 
-  pub seek_ends : {r : Bool} → end ≤ i → r ≡ any (covers level case) (blockers_from (unstamped_room masks levels) (held - upto) upto)
+  pub seek_ends : Passed (λ other. subset half other) low i end end → {r : Bool} → r ≡ any (covers level case) (blockers_from (unstamped_room masks levels) (held - upto) upto)
       → r ≡ any (covers level case) (blockers_from (unstamped_room masks levels) held 0)
   unfolding covers
-  seek_ends l e = e ∙ same_test _ _ (λ t. all t) (λ t. rest t)
+  seek_ends before {r} told = told ∙ same_test _ _ (λ t. all t) (λ t. rest t)
     where
       all : T (any (covers level case) (blockers_from (unstamped_room masks levels) (held - upto) upto))
           → T (any (covers level case) (blockers_from (unstamped_room masks levels) held 0))
@@ -258,15 +170,12 @@ module _ {level held upto end : ℕ} {masks levels low places : List ℕ} {case 
           by (no h) =
               let high : level ≤ get_or levels p.place 0 = leb→le level (get_or levels p.place 0) (and_left _ _ passes) in
               let listed = so_far.index.every p.place (omega arith) high in
-              absurd (fails (rw listed.there at (so_far.missed listed.at (omega (arith, listed.below)))) passes)
+              absurd (fails (rw listed.there at (missing before listed.at listed.below)) passes)
 
 -- The walk over blockers that are not listed, before place i: what is left of it decides.
 pub record Rest (masks levels : List ℕ) (from to level case i : ℕ) : Type 0 where
   pub left : any (covers level case) (blockers_from (unstamped_room masks levels) (to - i) i)
       ≡ any (covers level case) (blockers_from (unstamped_room masks levels) (to - from) from)
-
-pub rest_starts : {masks levels : List ℕ} {from to level case : ℕ} → Rest masks levels from to level case from
-rest_starts = record { left = refl }
 
 module _ {masks levels : List ℕ} {from to level case i : ℕ} (so_far : Rest masks levels from to level case i) where
   module _ {b : Bool} (l : i < to) (test : b ≡ covers level case (blocker_at (unstamped_room masks levels) i)) where

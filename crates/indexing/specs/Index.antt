@@ -1,8 +1,9 @@
 -- What the searches of a close answer, what its index lists, and what a rise leaves of the levels while nothing closes up. Assumes nothing: these are
 -- definitions.
-use Rattle.std.specs.Prelude.{ℕ, suc, ◌+◌, ◌%◌, ◌≤◌, ◌<◌, ◌≡◌, Bool, true, false, List, leb, length, get_or, drop}
+use Rattle.std.specs.Prelude.{ℕ, suc, ◌+◌, ◌%◌, ◌≤◌, ◌<◌, ◌≡◌, Bool, true, false, List, leb, length, get_or, drop, Option, MatchOption}
 use Rattle.lists.specs.Tests.{◌and◌, choose}
 use Rattle.masks.specs.Sets.{subset, without}
+use Rattle.indexing.specs.declared.index.Index as Struct
 
 -- where the answer is no, none of the `count` entries from `at` on passes the test
 pub record NoneOf (test : ℕ → Bool) (table : List ℕ) (at count : ℕ) (answer : Bool) : Type 0 where
@@ -14,10 +15,15 @@ pub record Passed (test : ℕ → Bool) (table : List ℕ) (from to r : ℕ) : T
   pub within : r ≤ to
   pub passed : (i : ℕ) → from ≤ i → i < r → test (get_or table i 0) ≡ false
 
--- r is the first place from `from` on and before `to` whose entry passes the test, or `to`
-pub record Next (test : ℕ → Bool) (table : List ℕ) (from to r : ℕ) : Type 0 where
+-- r is the first place from `from` on and before `to` whose entry passes the test
+pub record First (test : ℕ → Bool) (table : List ℕ) (from to r : ℕ) : Type 0 where
   pub before : Passed test table from to r
-  pub found : r < to → test (get_or table r 0) ≡ true
+  pub below : r < to
+  pub passes : test (get_or table r 0) ≡ true
+
+-- the answer is that place, or nothing where no entry from `from` on and before `to` passes the test
+abbrev pub Finds : (ℕ → Bool) → List ℕ → ℕ → ℕ → Option ℕ → Type 0
+Finds test table from to answer = MatchOption answer (Passed test table from to to) (First test table from to)
 
 -- the place p is among the first `end` that are listed
 pub record Listed (places : List ℕ) (end p : ℕ) : Type 0 where
@@ -35,6 +41,10 @@ pub record Index (level held upto end : ℕ) (masks levels low places : List ℕ
   pub held_places : (i : ℕ) → i < end → get_or places i 0 < held
   pub halves : (i : ℕ) → i < end → get_or low i 0 ≡ get_or masks (get_or places i 0) 0 % 4294967296
   pub every : (p : ℕ) → p < upto → level ≤ get_or levels p 0 → Listed places end p
+
+-- the same of an index as the code has it, where as many blockers are held as there are masks
+abbrev pub Lists : {N : ℕ} → ℕ → List ℕ → List ℕ → Struct.Index N → Type 0
+Lists level masks levels index = Index level (length masks) index.upto index.end masks levels index.low index.places
 
 -- the states below 32 that a mask lacks
 abbrev pub lack_of : ℕ → ℕ

@@ -1,107 +1,89 @@
 // The index of a close: the places of the blockers that may cover a case at a level, with the low halves of their masks side by side. It may list more
 // places than the level has: each is looked up before it counts.
-ghost use Rattle.std.specs.Prelude.{◌≡◌, ◌-◌, ◌≤◌, ◌<◌, length};
+ghost use Rattle.std.specs.Prelude.{◌≡◌, ◌-◌, ◌≤◌, length};
 ghost use Rattle.lists.specs.Lists.{any};
 ghost use Rattle.machine.specs.Machine.{covers as covers_case};
-ghost use Rattle.machine.specs.Lent.{blockers_from};
-ghost use Rattle.machine.specs.Lending.{unstamped_before};
-ghost use Rattle.indexing.specs.Index.{Index};
+ghost use Rattle.machine.specs.Lent.{blockers_from, unstamped_room};
+ghost use Rattle.indexing.specs.Index.{Lists};
 
-use crate::searching;
-use blockers::{Level, reasons};
+use crate::searching::{self, Containing};
+use blockers::Level;
+use blockers::reasons::Blockers;
 
-// How many places are listed, and before which place they are all those of the level: the number of blockers held, unless the room was too small.
-#[derive(Clone, Copy)]
-pub struct Extent {
-    pub end: usize,
-    pub upto: usize,
+// The low halves of the masks that are listed, and their places; how many they are, and before which place they are all those of the level: the number of
+// blockers, unless the room was too small.
+#[derive(Drop)]
+pub struct Index<const N: usize> {
+    low: [u32; N],
+    places: [u32; N],
+    end: usize,
+    upto: usize,
 }
 
-// A number of 32 bits as one that a place has.
-pub fn wide(number: u32) -> usize
-    ensures { result ≡ number }
+// Whether one of the blockers from `from` on covers the case at this level.
+fn is_covered_from(blockers: &Blockers<'_>, from: usize, level: Level, case: u64) -> bool
+    requires { length blockers.now.masks.now ≤ length blockers.now.levels.now }
+    ensures { result ≡ any (covers_case level.0 case)
+        (blockers_from (unstamped_room blockers.now.masks.now blockers.now.levels.now) (length blockers.now.masks.now - from) from) }
 {
-    number as usize
-}
-
-// Lists the places of this level or more, as far as there is room and 32 bits hold a place.
-pub fn gather(
-    masks: &[u64],
-    levels: &[u32],
-    held: usize,
-    low: &mut [u32],
-    places: &mut [u32],
-    level: Level,
-) -> Extent
-    requires { (held ≤ length masks.now) × (held ≤ length levels.now) × (length low.old ≡ length places.old) }
-    ensures { Index level.0 held result.upto result.end masks.now levels.now low.new places.new }
-{
-    let mut end: usize = 0;
-    let mut place: usize = 0;
-    while place < held {
-        if !level.is_at_most(Level(levels[place])) {
-            place += 1;
-            continue;
-        }
-        if low.len() <= end {
-            return Extent { end, upto: place };
-        }
-        if 4294967295 < place {
-            return Extent { end, upto: place };
-        }
-        low[end] = searching::low_half(masks[place]);
-        places[end] = place as u32;
-        end += 1;
-        place += 1;
-    }
-    Extent { end, upto: held }
-}
-
-// Whether one of the blockers from `from` on and before `to` covers the case at this level.
-fn is_covered_from(
-    masks: &[u64],
-    levels: &[u32],
-    from: usize,
-    to: usize,
-    level: Level,
-    case: u64,
-) -> bool
-    requires { (to ≤ length masks.now) × (to ≤ length levels.now) }
-    ensures { result ≡ any (covers_case level.0 case) (blockers_from (unstamped_before masks.now levels.now) (to - from) from) }
-{
-    let mut i = from;
-    while i < to {
-        if reasons::covers_at(masks, levels, i, level, case) {
+    for place in from..blockers.masks.len() {
+        if blockers.covers_at(place, level, case) {
             return true;
         }
-        i += 1;
     }
     false
 }
 
-// Whether one of the blockers held covers the case at this level. Only those that the index lists are asked, and those that it does not reach.
-pub fn is_covered(
-    masks: &[u64],
-    levels: &[u32],
-    held: usize,
-    low: &[u32],
-    places: &[u32],
-    listed: Extent,
-    level: Level,
-    case: u64,
-) -> bool
-    requires { Index level.0 held listed.upto listed.end masks.now levels.now low.now places.now }
-    ensures { result ≡ any (covers_case level.0 case) (blockers_from (unstamped_before masks.now levels.now) held 0) }
-{
-    let half = searching::low_half(case);
-    let end = listed.end;
-    let mut i = searching::next_containing(low, 0, end, half);
-    while i < end {
-        let place = wide(places[i]);
-        if reasons::covers_at(masks, levels, place, level, case) {
-            return true;
+impl<const N: usize> Index<N> {
+    // One that lists nothing.
+    pub fn new() -> Self
+        ensures { (result.end ≡ 0) × (result.upto ≡ 0) }
+    {
+        Index {
+            low: [0; N],
+            places: [0; N],
+            end: 0,
+            upto: 0,
         }
-        i = searching::next_containing(low, i + 1, end, half);
     }
-    is_covered_from(masks, levels, listed.upto, held, level, case)
+
+    // Lists the places of this level or more, as far as there is room and 32 bits hold a place.
+    pub fn gather(&mut self, blockers: &Blockers<'_>, level: Level)
+        requires { length blockers.now.masks.now ≤ length blockers.now.levels.now }
+        ensures { Lists level.0 blockers.now.masks.now blockers.now.levels.now self.new }
+    {
+        self.end = 0;
+        for place in 0..blockers.masks.len() {
+            if Level(blockers.levels[place]) < level {
+                continue;
+            }
+            if N <= self.end || 4294967295 < place {
+                self.upto = place;
+                return;
+            }
+            self.low[self.end] = searching::low_half(blockers.masks[place]);
+            // the test above proves that it fits
+            self.places[self.end] = place as u32;
+            self.end += 1;
+        }
+        self.upto = blockers.masks.len();
+    }
+
+    // Whether one of the blockers covers the case at this level. Only those that the index lists are asked, and those that it does not reach.
+    pub fn is_covered(&self, blockers: &Blockers<'_>, level: Level, case: u64) -> bool
+        requires { Lists level.0 blockers.now.masks.now blockers.now.levels.now self.now }
+        ensures { result ≡ any (covers_case level.0 case)
+            (blockers_from (unstamped_room blockers.now.masks.now blockers.now.levels.now) (length blockers.now.masks.now) 0) }
+    {
+        let half = Containing(searching::low_half(case));
+        // the place goes on by hand, as in the search itself: sixteen are tested at once
+        let mut from = 0;
+        while let Some(i) = searching::next(&self.low, from, self.end, &half) {
+            if blockers.covers_at(self.places[i] as usize, level, case) {
+                return true;
+            }
+            from = i + 1;
+        }
+        is_covered_from(blockers, self.upto, level, case)
+    }
 }

@@ -1,48 +1,73 @@
 // Searches along a table for the first place that passes a test. Sixteen places are tested before a branch asks, so that the compiler tests them at once.
-ghost use Rattle.std.specs.Prelude.{◌≡◌, ◌+◌, ◌≤◌, ◌%◌, length, eqb};
+ghost use Rattle.std.specs.Prelude.{◌≡◌, ◌+◌, ◌≤◌, ◌%◌, ℕ, Bool, length, eqb};
 ghost use Rattle.masks.specs.Sets.{subset as is_subset};
-ghost use Rattle.indexing.specs.Index.{NoneOf, Passed, Next};
+ghost use Rattle.indexing.specs.Index.{NoneOf, Passed, Finds};
 
 use blockers::Level;
 
-// Whether each state of a is in b, of sets of the states below 32.
-pub fn subset_low(a: u32, b: u32) -> bool
-    ensures { result ≡ is_subset a b }
-{
-    a & b == a
+// A test of an entry. Each search is compiled for its test, so that the test stands in the loop.
+pub trait Test {
+    ghost passed_by: { Self → ℕ → Bool };
+
+    fn passes(&self, entry: u32) -> bool
+        ensures { result ≡ passed_by self.now entry };
+}
+
+// Whether it is this level.
+#[derive(Clone, Copy)]
+pub struct AtLevel(pub Level);
+
+impl Test for AtLevel {
+    ghost passed_by = { λ test entry. eqb entry test.0.0 };
+
+    fn passes(&self, entry: u32) -> bool {
+        Level(entry) == self.0
+    }
+}
+
+// Whether it contains this set, of sets of the states below 32.
+#[derive(Clone, Copy)]
+pub struct Containing(pub u32);
+
+impl Test for Containing {
+    ghost passed_by = { λ test entry. is_subset test.0 entry };
+
+    #[tactic(auto, unfolding(masks::specs::Sets::subset))]
+    fn passes(&self, entry: u32) -> bool {
+        self.0 & entry == self.0
+    }
 }
 
 // The states below 32 of a set.
 pub fn low_half(mask: u64) -> u32
     ensures { result ≡ mask % 4294967296 }
 {
+    // what is left of the division fits
     (mask % 4294967296) as u32
 }
 
-// Whether one of the sixteen places from `at` on holds this level.
-fn sixteen_at(levels: &[u32], at: usize, level: Level) -> bool
-    requires { at + 16 ≤ length levels.now }
-    ensures { NoneOf (λ other. eqb other level.0) levels.now at 16 result }
+// Whether one of the sixteen places from `at` on passes.
+fn one_of_sixteen<T: Test>(table: &[u32], at: usize, test: &T) -> bool
+    requires { at + 16 ≤ length table.now }
+    ensures { NoneOf (T.passed_by test.now) table.now at 16 result }
 {
     let mut found = false;
-    for i in 0..16usize {
-        found = found | Level(levels[at + i]).equals(level);
+    for i in 0..16 {
+        found |= test.passes(table[at + i]);
     }
     found
 }
 
-// How far no place from `from` on and before `to` holds this level: up to sixteen of which one does, or where the table has fewer. The last sixteen may
-// reach behind `to`.
-fn pass_level(levels: &[u32], from: usize, to: usize, level: Level) -> usize
-    requires { (from ≤ to) × (to ≤ length levels.now) }
-    ensures { Passed (λ other. eqb other level.0) levels.now from to result }
+// How far no place from `from` on and before `to` passes: up to sixteen of which one does, or where the table has fewer. The last sixteen may reach behind
+// `to`.
+fn pass<T: Test>(table: &[u32], from: usize, to: usize, test: &T) -> usize
+    requires { (from ≤ to) × (to ≤ length table.now) }
+    ensures { Passed (T.passed_by test.now) table.now from to result }
 {
+    // A `for` by `step_by` counts its steps beside the place, which was slower by a tenth.
     let mut i = from;
     while i < to {
-        if levels.len() - i < 16 {
-            return i;
-        }
-        if sixteen_at(levels, i, level) {
+        if table.len() - i < 16 || one_of_sixteen(table, i, test) {
             return i;
         }
         i += 16;
@@ -50,63 +75,15 @@ fn pass_level(levels: &[u32], from: usize, to: usize, level: Level) -> usize
     to
 }
 
-// The first place from `from` on and before `to` that holds this level, or `to`.
-pub fn next_at(levels: &[u32], from: usize, to: usize, level: Level) -> usize
-    requires { (from ≤ to) × (to ≤ length levels.now) }
-    ensures { Next (λ other. eqb other level.0) levels.now from to result }
+// The first place from `from` on and before `to` that passes.
+pub fn next<T: Test>(table: &[u32], from: usize, to: usize, test: &T) -> Option<usize>
+    requires { (from ≤ to) × (to ≤ length table.now) }
+    ensures { Finds (T.passed_by test.now) table.now from to result }
 {
-    let mut i = pass_level(levels, from, to, level);
-    while i < to {
-        if Level(levels[i]).equals(level) {
-            return i;
+    for i in pass(table, from, to, test)..to {
+        if test.passes(table[i]) {
+            return Some(i);
         }
-        i += 1;
     }
-    to
-}
-
-// Whether one of the sixteen sets from `at` on contains this one.
-fn sixteen_contain(low: &[u32], at: usize, set: u32) -> bool
-    requires { at + 16 ≤ length low.now }
-    ensures { NoneOf (λ other. is_subset set other) low.now at 16 result }
-{
-    let mut found = false;
-    for i in 0..16usize {
-        found = found | subset_low(set, low[at + i]);
-    }
-    found
-}
-
-// How far no set from `from` on and before `to` contains this one: up to sixteen of which one does, or where the table has fewer. The last sixteen may
-// reach behind `to`.
-fn pass_sets(low: &[u32], from: usize, to: usize, set: u32) -> usize
-    requires { (from ≤ to) × (to ≤ length low.now) }
-    ensures { Passed (λ other. is_subset set other) low.now from to result }
-{
-    let mut i = from;
-    while i < to {
-        if low.len() - i < 16 {
-            return i;
-        }
-        if sixteen_contain(low, i, set) {
-            return i;
-        }
-        i += 16;
-    }
-    to
-}
-
-// The first of the sets from `from` on and before `to` that contains this one, or `to`.
-pub fn next_containing(low: &[u32], from: usize, to: usize, set: u32) -> usize
-    requires { (from ≤ to) × (to ≤ length low.now) }
-    ensures { Next (λ other. is_subset set other) low.now from to result }
-{
-    let mut i = pass_sets(low, from, to, set);
-    while i < to {
-        if subset_low(set, low[i]) {
-            return i;
-        }
-        i += 1;
-    }
-    to
+    None
 }

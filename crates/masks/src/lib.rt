@@ -9,7 +9,7 @@ ghost use Rattle.masks.specs.Sets.{without as set_without};
 ghost use Rattle.masks.specs.Sets.{union, single, full as full_set, lowest_absent};
 
 // A state's number.
-#[derive(Clone, Copy)]
+#[derive(Clone, Copy, PartialEq, Eq)]
 pub struct State(pub u8);
 
 // Whether each state of a is in b.
@@ -62,7 +62,7 @@ pub fn insert_if(test: bool, q: State, set: u64) -> u64
     requires { q.0 < 64 }
     ensures { result ≡ choose test (union set (single q.0)) set }
 {
-    set | (test as u64) << q.0
+    set | u64::from(test) << q.0
 }
 
 // The set of all n states.
@@ -91,5 +91,6 @@ pub fn lowest_absent(a: u64, b: u64) -> State
     requires { is_subset a b ≡ false }
     ensures { lowest_absent a b ≡ some result.0 }
 {
+    // below 64, where `try_from` would have an error to handle
     State(u64::trailing_zeros(without(a, b)) as u8)
 }

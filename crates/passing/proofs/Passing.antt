@@ -1,12 +1,11 @@
 -- Whether a set passes, by the tests of the code. Assumes nothing.
 use Prim.Native.Nat.{ℕ, ◌≤◌, ◌<◌}
-use mathlib.Core.Path.{◌≡◌, sym, ap, ◌∙◌}
+use mathlib.Core.Path.{◌≡◌, refl, sym, ap, ◌∙◌}
 use mathlib.Core.Bool.{Bool, true, false, not}
 use mathlib.Core.List.{List}
-use borrow.Author.Tests.{not-true, not-false}
 use lib.Dec.{T}
 use Rattle.lists.specs.Tests.{◌and◌, neg}
-use Rattle.lists.proofs.Tests.{holds, is_true, and_fails}
+use Rattle.lists.proofs.Tests.{is_true, and_fails, neg_is_not}
 use Rattle.masks.specs.Sets.{subset, within}
 use Rattle.automata.specs.Image.{states_of, initial_of, rows_of}
 use Rattle.automata.specs.Automaton.{backward}
@@ -43,10 +42,32 @@ pub pass_beyond_states : (S : System) (table : List Blocker) (below X Y : ℕ) �
 unfolding passes
 pass_beyond_states S table below X Y e = third_fails _ _ _ _ e
 
-pub pass_lacks : (S : System) (table : List Blocker) (below X Y : ℕ) (contains : Bool) → contains ≡ subset X Y → not contains ≡ true
-    → false ≡ passes S table below X Y
-unfolding passes ◌and◌
-pass_lacks S table below X Y contains e n = sym (rw (← e, not-true contains n))
+-- Joined tests as the code asks them: the second only where the first holds.
+module _ {first joined : Bool} (a b : Bool) (is : first ≡ a) where
+  pub second_asked : {second : Bool} → first ≡ true → joined ≡ second → second ≡ b → joined ≡ (a and b)
+  unfolding ◌and◌
+  second_asked t j e = j ∙ e ∙ sym (rw (← is, t))
+
+  pub second_unasked : first ≡ false → joined ≡ first → joined ≡ (a and b)
+  unfolding ◌and◌
+  second_unasked f j = j ∙ f ∙ sym (rw (← is, f))
+
+pub not_means : (b : Bool) {r : Bool} → r ≡ b → not r ≡ neg b
+unfolding neg
+not_means b e = ap not e ∙ neg_is_not b
+
+-- the tests before the backward sets, joined
+abbrev pub tests_before : Head → ℕ → ℕ → Bool
+tests_before head X Y = (subset X Y and neg (subset head.initial Y)) and within head.states Y
+
+and_joined : (a b c d : Bool) → (a and b and c and d) ≡ (((a and b) and c) and d)
+unfolding ◌and◌
+and_joined true b c d = joined b c d
+  where
+    joined : (b c d : Bool) → (b and c and d) ≡ ((b and c) and d)
+    joined true c d = refl
+    joined false c d = refl
+and_joined false b c d = refl
 
 module _ (image : List ℕ) (table : List Blocker) (below X Y : ℕ) {head : Head} (read : ReadAs image head) where
   -- what the two tests with the head say
@@ -60,22 +81,24 @@ module _ (image : List ℕ) (table : List Blocker) (below X Y : ℕ) {head : Hea
   unfolding passes neg
   pass_initial b e t = sym (second_fails _ _ _ (ap neg (initial_test e ∙ t)))
 
-  pub pass_beyond : (b : Bool) → b ≡ within head.states Y → not b ≡ true → false ≡ passes (system_of image) table below X Y
-  pass_beyond b e n = sym (pass_beyond_states (system_of image) table below X Y (within_test e ∙ not-true b n))
-
   -- the rest of the test
   pass_rest : T (subset X Y) → subset (initial_of image) Y ≡ false → T (within (states_of image) Y)
       → passes (system_of image) table below X Y ≡ all_settled image table below Y
   unfolding passes all_settled ◌and◌ neg
   pass_rest inside lacks fits = rw (is_true (subset X Y) inside, lacks, is_true (within (states_of image) Y) fits)
 
-  pub pass_settled : (contains without fits r : Bool)
-      → contains ≡ subset X Y → not contains ≡ false
-      → without ≡ subset head.initial Y → without ≡ false
-      → fits ≡ within head.states Y → not fits ≡ false
-      → r ≡ all_settled image table below Y → r ≡ passes (system_of image) table below X Y
-  pass_settled contains without fits r c ct w wf f ft e =
-      e ∙ sym (pass_rest (holds (sym c ∙ not-false contains ct)) (initial_test w ∙ wf) (holds (within_test f ∙ not-false fits ft)))
+  pass_by : passes (system_of image) table below X Y ≡ (tests_before head X Y and all_settled image table below Y)
+  unfolding passes all_settled
+  pass_by = rw (head_initial read, head_states read) (and_joined _ _ _ _)
+
+  module _ (before : Bool) (are : before ≡ tests_before head X Y) where
+    pub pass_settled : before ≡ true → (r : Bool) → r ≡ all_settled image table below Y → r ≡ passes (system_of image) table below X Y
+    unfolding ◌and◌
+    pass_settled t r e = e ∙ sym (pass_by ∙ rw (← are, t))
+
+    pub pass_untested : before ≡ false → before ≡ passes (system_of image) table below X Y
+    unfolding ◌and◌
+    pass_untested f = f ∙ sym (pass_by ∙ rw (← are, f))
 
   pub pass_grown : Grown image X Y → (without r : Bool) → without ≡ subset head.initial Y → without ≡ false
       → r ≡ all_settled image table below Y → r ≡ passes (system_of image) table below X Y

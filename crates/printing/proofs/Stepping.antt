@@ -1,6 +1,6 @@
 -- The cases of a word's run in a table: the loop that puts each in the place of its set, and when the table has them. Assumes nothing.
 use Prim.Native.Nat.{ℕ, suc, ◌+◌, ◌≤◌, ◌<◌}
-use mathlib.Core.Path.{◌≡◌, refl, sym, ap, ◌∙◌}
+use mathlib.Core.Path.{◌≡◌, sym, ap, ◌∙◌}
 use mathlib.Core.Bool.{Bool, true, false, not}
 use mathlib.Core.List.{List, [], ◌∷◌, ◌++◌, append-nil}
 use native.Mathlib.Numerals.{add-one}
@@ -8,14 +8,13 @@ use native.Mathlib.Omega.{arith}
 use borrow.Author.Tests.{not-true, not-false}
 use lib.ListN.{length, get_or, take, drop, set, take-append-drop, drop_of_length-le}
 use lib.Seq.{append_snoc, drop-set-lt, take-suc-set}
-use Rattle.lists.proofs.Tests.{fails}
 use Rattle.lists.proofs.Lists.{drop_first}
 use Rattle.masks.specs.Sets.{subset}
 use Rattle.automata.specs.Image.{states_of, rows_of}
 use Rattle.automata.specs.Automaton.{automaton_of, taken_back}
 use Rattle.automata.specs.WordTest.{accepts}
 use Rattle.automata.specs.Picks.{reached, Event, events_over, events_of}
-use Rattle.automata.specs.Answers.{head_of}
+use Rattle.automata.specs.Answers.{ReadAs}
 use Rattle.automata.specs.declared.image.Head.{Head}
 use Rattle.printing.specs.Steps.{sets_behind, events_by, cases_of, case_after, Ready}
 use Rattle.printing.proofs.SetsBehind.{events_by_lem}
@@ -29,15 +28,9 @@ pub record Stepping (image word : List ℕ) (x : ℕ) (before table : List ℕ) 
   pub cases : take i table ++ cases_of (events_by (automaton_of image) case (drop i word) (drop i before)) ≡ cases_of (events_by (automaton_of image) x word before)
   pub lasts : case_after case (events_by (automaton_of image) case (drop i word) (drop i before)) ≡ case_after x (events_by (automaton_of image) x word before)
 
-pub stepping_starts : {image word : List ℕ} {x : ℕ} {table : List ℕ} → length word ≤ length table → Stepping image word x table table x 0
-stepping_starts h = record { bound = omega arith; places = h; long = refl; sets_stay = refl; cases = refl; lasts = refl }
-
 module _ {image word : List ℕ} {x : ℕ} {before table : List ℕ} {case i : ℕ} (stepping : Stepping image word x before table case i) where
   pub stepping_place : i < length word → i < length table
   stepping_place l = omega (arith, stepping.places, stepping.long)
-
-  pub stepping_long : length table ≡ length before
-  stepping_long = stepping.long
 
   -- the place of symbol i still has its set, and so have those behind it
   still_set : i < length word → get_or table i 0 ∷ drop (i + 1) table ≡ get_or before i 0 ∷ drop (i + 1) before
@@ -102,11 +95,11 @@ pub filled_events : (image word rest table : List ℕ) (z x : ℕ) → table ≡
 filled_events image word rest table z x e = ap (events_by (automaton_of image) x word) e ∙ events_by_lem (automaton_of image) z x word rest
 
 -- whether the word is accepted, and the table then
-module _ (image word : List ℕ) (head : Head) (eh : head ≡ head_of image) (back : ℕ) (eb : back ≡ taken_back (automaton_of image) word head.finals) (inside : Bool)
+module _ (image word : List ℕ) (head : Head) (read : ReadAs image head) (back : ℕ) (eb : back ≡ taken_back (automaton_of image) word head.finals) (inside : Bool)
     (test : inside ≡ subset head.initial back) where
   pub accept_tested : inside ≡ accepts (automaton_of image) word
   unfolding accepts
-  accept_tested = test ∙ ap (subset head.initial) eb ∙ ap (λ (h : Head). subset h.initial (taken_back (automaton_of image) word h.finals)) eh
+  accept_tested = test ∙ ap (subset head.initial) eb ∙ ap (λ (h : Head). subset h.initial (taken_back (automaton_of image) word h.finals)) read.read
 
   pub accept_not : not inside ≡ true → false ≡ accepts (automaton_of image) word
   accept_not t = sym (not-true inside t) ∙ accept_tested
@@ -114,25 +107,19 @@ module _ (image word : List ℕ) (head : Head) (eh : head ≡ head_of image) (ba
   pub accept_yes : not inside ≡ false → true ≡ accepts (automaton_of image) word
   accept_yes t = sym (not-false inside t) ∙ accept_tested
 
--- it is ready where it is too short for the word, where the word is not accepted, and after the steps
-pub ready_short : (image word before table : List ℕ) → length before < length word → length table ≡ length before → Ready image word table
-ready_short image word before table l e = record { rest = []; holds = λ h. absurd (omega arith) }
-
-pub ready_not : (image word table : List ℕ) → false ≡ true → Ready image word table
-ready_not image word table t = absurd (fails (sym t) tt)
-
-pub ready_stepped : (image word : List ℕ) (head : Head) (before filled table : List ℕ) → head ≡ head_of image
+-- it is ready after the steps
+pub ready_stepped : (image word : List ℕ) (head : Head) (before filled table : List ℕ) → ReadAs image head
     → filled ≡ sets_behind (automaton_of image) head.finals word ++ drop (length word) before
     → table ≡ cases_of (events_by (automaton_of image) head.initial word filled) ++ drop (length word) filled → true ≡ true → Ready image word table
 unfolding events_of
-ready_stepped image word head before filled table eh ef et t =
+ready_stepped image word head before filled table read ef et t =
     record {
       rest = drop (length word) filled;
       holds = λ l.
           et
           ∙ ap (λ (events : List Event). cases_of events ++ drop (length word) filled)
           (filled_events image word (drop (length word) before) filled head.finals head.initial ef
-          ∙ ap (λ (h : Head). events_over (automaton_of image) h.finals h.initial word) eh);
+          ∙ ap (λ (h : Head). events_over (automaton_of image) h.finals h.initial word) read.read);
     }
 
 -- so it is where the word was found to be accepted

@@ -2,25 +2,22 @@
 ghost use Rattle.std.specs.Prelude.{◌≡◌, true, ◌++◌, ◌≤◌, length, drop};
 ghost use Rattle.automata.specs.Automaton.{automaton_of, taken_back};
 ghost use Rattle.automata.specs.WordTest.{accepts, WordOf};
-ghost use Rattle.automata.specs.Answers.{head_of};
 ghost use Rattle.printing.specs.Steps.{sets_behind, events_by, cases_of, case_after, Ready};
 
 use automata::backward::backward;
-use automata::image::{Head, Symbol};
+use automata::image::{Image, Symbol};
 use automata::picks::reached;
 use automata::word::taken_back;
 
 // The set z taken back by the whole word; the table has it taken back by what remains behind each symbol.
-pub(crate) fn fill(image: &[u8], word: &[u8], z: u64, table: &mut [u64]) -> u64
+pub(crate) fn fill(image: &Image<'_>, word: &[u8], z: u64, table: &mut [u64]) -> u64
     requires { WordOf image.now word.now × (length word.now ≤ length table.old) }
     ensures back { result ≡ taken_back (automaton_of image.now) word.now z }
     ensures sets { table.new ≡ sets_behind (automaton_of image.now) z word.now
         ++ drop (length word.now) table.old }
 {
     let mut case = z;
-    let mut i = word.len();
-    while 0 < i {
-        i -= 1;
+    for i in (0..word.len()).rev() {
         table[i] = case;
         case = backward(image, Symbol(word[i]), case).set;
     }
@@ -28,29 +25,28 @@ pub(crate) fn fill(image: &[u8], word: &[u8], z: u64, table: &mut [u64]) -> u64
 }
 
 // The case that x reaches by the whole word, inside the sets of the table; the table then has the case that it reaches by each symbol.
-pub(crate) fn step_through(image: &[u8], word: &[u8], x: u64, table: &mut [u64]) -> u64
+pub(crate) fn step_through(image: &Image<'_>, word: &[u8], x: u64, table: &mut [u64]) -> u64
     requires { WordOf image.now word.now × (length word.now ≤ length table.old) }
     ensures last { result ≡ case_after x (events_by (automaton_of image.now) x word.now table.old) }
     ensures cases { table.new ≡ cases_of (events_by (automaton_of image.now) x word.now table.old)
         ++ drop (length word.now) table.old }
 {
     let mut case = x;
-    let mut i: usize = 0;
-    while i < word.len() {
-        let next = reached(image, Symbol(word[i]), table[i], case);
+    for (i, &symbol) in word.iter().enumerate() {
+        let next = reached(image, Symbol(symbol), table[i], case);
         table[i] = next;
         case = next;
-        i += 1;
     }
     case
 }
 
 // Whether the word is accepted. If it is, a table that is long enough has the cases of its run.
-pub(crate) fn accept(image: &[u8], word: &[u8], head: Head, table: &mut [u64]) -> bool
-    requires { WordOf image.now word.now × (head ≡ head_of image.now) }
+pub(crate) fn accept(image: &Image<'_>, word: &[u8], table: &mut [u64]) -> bool
+    requires { WordOf image.now word.now }
     ensures accepted { result ≡ accepts (automaton_of image.now) word.now }
     ensures ready { result ≡ true → Ready image.now word.now table.new }
 {
+    let head = image.head();
     if table.len() < word.len() {
         return masks::subset(head.initial, taken_back(image, word, head.finals));
     }

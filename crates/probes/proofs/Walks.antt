@@ -1,52 +1,49 @@
 -- The walk's number and its two places, by the reader's answer and the symbol. Assumes nothing.
 use Prim.Native.Nat.{ℕ, ◌≤◌, ◌<◌}
-use mathlib.Core.Path.{◌≡◌, sym, subst, ◌∙◌}
+use mathlib.Core.Path.{◌≡◌, sym, ◌∙◌}
 use mathlib.Core.List.{List, [], ◌∷◌}
 use borrow.Author.Tests.{le-ltb, lt-ltb}
-use lib.Dec.{ltb}
-use Rattle.lists.specs.Tests.{choose}
+use Rattle.std.specs.Prelude.{Ok, Err}
 use Rattle.lists.proofs.Tests.{choose_true, choose_false}
 use Rattle.automata.specs.Image.{states_of, symbols_of, rows_of}
 use Rattle.automata.specs.Automaton.{backward, rows_walked}
-use Rattle.automata.specs.Answers.{read_image}
+use Rattle.automata.specs.Refusals.{number_of}
+use Rattle.automata.specs.Answers.{ReadAs, read_image}
 use Rattle.automata.specs.declared.image.Head.{Head}
-use Rattle.automata.specs.declared.image.Image.{Image}
-use Rattle.automata.specs.declared.image.Image.TheVariants.{Valid, Refused}
-use Rattle.automata.proofs.WordTests.{answer_head}
+use Rattle.automata.specs.declared.refusal.Refusal.{Refusal}
+use Rattle.automata.proofs.Reading.{head_symbols}
 use Rattle.probes.specs.Walks.{walk_number, walked_after}
 
-module _ (before image : List ℕ) (s X : ℕ) (answer : Image) (read : answer ≡ read_image image) where
-  module _ (number : ℕ) (e : answer ≡ Refused number) where
-    pub number_refused : number ≡ walk_number s (read_image image)
+module _ (before bytes : List ℕ) (s X : ℕ) where
+  module _ (refusal : Refusal) (read : Err refusal ≡ read_image bytes) where
+    pub number_refused : number_of refusal ≡ walk_number s (read_image bytes)
     unfolding walk_number
-    number_refused = rw (← read, e)
+    number_refused = rw (← read)
 
-    pub places_refused : before ≡ walked_after before image s X (read_image image)
+    pub places_refused : before ≡ walked_after before s X (read_image bytes)
     unfolding walked_after
-    places_refused = rw (← read, e)
+    places_refused = rw (← read)
 
-  module _ (head : Head) (e : answer ≡ Valid head) where
-    pub symbol_known : s < head.symbols → s < symbols_of image
-    symbol_known l = subst (λ (h : Head). s < h.symbols) (answer_head image answer read head e) l
+  module _ (image : List ℕ) (head : Head) (k : ℕ) (read : Ok image ≡ read_image bytes) (says : ReadAs image head) (e : k ≡ head.symbols) where
+    symbols_are : k ≡ symbols_of image
+    symbols_are = e ∙ head_symbols says
 
-    numbered : walk_number s (read_image image) ≡ choose (ltb s head.symbols) 0 32
+    pub symbol_known : s < k → s < symbols_of image
+    symbol_known l = rw symbols_are at l
+
+    pub number_unknown : k ≤ s → 32 ≡ walk_number s (read_image bytes)
     unfolding walk_number
-    numbered = rw (← read, e)
+    number_unknown l = rw (← read) (sym (choose_false _ _ (le-ltb _ _ (rw symbols_are at l))))
 
-    placed : walked_after before image s X (read_image image)
-        ≡ choose (ltb s head.symbols) (backward (rows_of image s) X ∷ rows_walked (states_of image) (rows_of image s) X ∷ []) before
+    pub places_unknown : k ≤ s → before ≡ walked_after before s X (read_image bytes)
     unfolding walked_after
-    placed = rw (← read, e)
+    places_unknown l = rw (← read) (sym (choose_false _ _ (le-ltb _ _ (rw symbols_are at l))))
 
-    pub number_unknown : head.symbols ≤ s → 32 ≡ walk_number s (read_image image)
-    number_unknown l = sym (numbered ∙ choose_false _ _ (le-ltb _ _ l))
+    pub number_known : s < k → 0 ≡ walk_number s (read_image bytes)
+    unfolding walk_number
+    number_known l = rw (← read) (sym (choose_true _ _ (lt-ltb _ _ (symbol_known l))))
 
-    pub places_unknown : head.symbols ≤ s → before ≡ walked_after before image s X (read_image image)
-    places_unknown l = sym (placed ∙ choose_false _ _ (le-ltb _ _ l))
-
-    pub number_known : s < head.symbols → 0 ≡ walk_number s (read_image image)
-    number_known l = sym (numbered ∙ choose_true _ _ (lt-ltb _ _ l))
-
-    pub places_known : (set rows : ℕ) → s < head.symbols → set ≡ backward (rows_of image s) X → rows ≡ rows_walked (states_of image) (rows_of image s) X
-        → set ∷ rows ∷ [] ≡ walked_after before image s X (read_image image)
-    places_known set rows l es er = rw (es, er) (sym (placed ∙ choose_true _ _ (lt-ltb _ _ l)))
+    pub places_known : (set rows : ℕ) → s < k → set ≡ backward (rows_of image s) X → rows ≡ rows_walked (states_of image) (rows_of image s) X
+        → set ∷ rows ∷ [] ≡ walked_after before s X (read_image bytes)
+    unfolding walked_after
+    places_known set rows l es er = rw (es, er, ← read) (sym (choose_true _ _ (lt-ltb _ _ (symbol_known l))))

@@ -152,45 +152,43 @@ module _ {S : System} {first : BlockerRoom} {held j count place : ℕ} {room : B
     next : along S j (blockers_from room place 0) (blocker_at room place ∷ ahead) ≡ risen_at S j (table_of held first)
     next = ap (λ (rest : List Blocker). along S j (blockers_from room place 0) rest) (sym (next_blocker room count place l)) ∙ walked.left
 
-    -- whether the blocker rises, by masks and levels of the part in use; and so by the table that the walk has come to
-    abbrev part_rises : Bool
-    part_rises = rises S (blockers_in (take count room.masks) (take count room.levels)) j
-        (blocker_at (unstamped_room (take count room.masks) (take count room.levels)) place)
+    -- whether the blocker rises, by the blockers that are held; and so by the table that the walk has come to
+    module _ {masks levels : List ℕ} (of_masks : masks ≡ take count room.masks) (of_levels : levels ≡ take count room.levels) {b : Bool}
+        (test : b ≡ rises S (blockers_in masks levels) j (blocker_at (unstamped_room masks levels) place)) where
+      tested : rises S (blockers_from room place 0 ++ blocker_at room place ∷ ahead) j (blocker_at room place) ≡ b
+      tested =
+          ap (λ (table : List Blocker). rises S table j (blocker_at room place)) (table_apart room count place l)
+          ∙ sym (part_rises_lem walked.changed.holds S j l)
+          ∙ sym (rw (of_masks, of_levels) at test)
 
-    tested : {b : Bool} → b ≡ part_rises → rises S (blockers_from room place 0 ++ blocker_at room place ∷ ahead) j (blocker_at room place) ≡ b
-    tested test =
-        ap (λ (table : List Blocker). rises S table j (blocker_at room place)) (table_apart room count place l)
-        ∙ sym (part_rises_lem walked.changed.holds S j l)
-        ∙ sym test
+      exactly : b ≡ true → get_or room.levels place 0 ≡ j
+      unfolding rises
+      exactly t = eqb→eq (get_or room.levels place 0) j (and_left _ _ (holds (tested ∙ t)))
 
-    exactly : {b : Bool} → b ≡ true → b ≡ part_rises → get_or room.levels place 0 ≡ j
-    unfolding rises
-    exactly t test = eqb→eq (get_or room.levels place 0) j (and_left _ _ (holds (tested test ∙ t)))
+      pub walk_passes : b ≡ false → Walked S first held j count (place + 1) room
+      walk_passes f = record {
+        within = omega arith;
+        changed = walked.changed;
+        left =
+            ap (λ (passed : List Blocker). along S j passed ahead) (sym (one_more room place))
+            ∙ sym (along_stays S j (blockers_from room place 0) (blocker_at room place) ahead (tested ∙ f))
+            ∙ next;
+      }
 
-    pub walk_passes : {b : Bool} → b ≡ false → b ≡ part_rises → Walked S first held j count (place + 1) room
-    walk_passes f test = record {
-      within = omega arith;
-      changed = walked.changed;
-      left =
-          ap (λ (passed : List Blocker). along S j passed ahead) (sym (one_more room place))
-          ∙ sym (along_stays S j (blockers_from room place 0) (blocker_at room place) ahead (tested test ∙ f))
-          ∙ next;
-    }
-
-    pub walk_rises : {count' place' : ℕ} {room' : BlockerRoom} → RisesAt count place room count' place' room'
-        → {b : Bool} → b ≡ true → b ≡ part_rises → Walked S first held j count' (place' + 1) room'
-    walk_rises rise t test = record {
-      within = omega (arith, rise.below);
-      changed = changed_further walked.changed (record { count = rise.count; tables = rise.tables; few = rise.few });
-      left =
-          ap₂ (λ (passed rest : List Blocker). along S j passed rest) (risen_passed rise) (risen_ahead rise)
-          ∙ sym (along_rises S j (blockers_from room place 0) (blocker_at room place) ahead (tested test ∙ t))
-          ∙ next;
-    }
+      pub walk_rises : {count' place' : ℕ} {room' : BlockerRoom} → RisesAt count place room count' place' room' → b ≡ true
+          → Walked S first held j count' (place' + 1) room'
+      walk_rises rise t = record {
+        within = omega (arith, rise.below);
+        changed = changed_further walked.changed (record { count = rise.count; tables = rise.tables; few = rise.few });
+        left =
+            ap₂ (λ (passed rest : List Blocker). along S j passed rest) (risen_passed rise) (risen_ahead rise)
+            ∙ sym (along_rises S j (blockers_from room place 0) (blocker_at room place) ahead (tested ∙ t))
+            ∙ next;
+      }
 
 -- one that rises is of the walk's level
-pub rises_exactly : {S : System} {first : BlockerRoom} {held j count place : ℕ} {masks levels entered : List ℕ} {top : ℕ}
-    → Walked S first held j count place (room_of masks levels entered) → place < count → j < top → {b : Bool} → b ≡ true
-    → b ≡ rises S (blockers_in (take count masks) (take count levels)) j (blocker_at (unstamped_room (take count masks) (take count levels)) place)
-    → get_or levels place 0 < top
-rises_exactly walked l h t test = rw (exactly walked l t test) h
+pub rises_exactly : {S : System} {first : BlockerRoom} {held j count place : ℕ} {masks levels entered part_masks part_levels : List ℕ} {top : ℕ}
+    → Walked S first held j count place (room_of masks levels entered) → place < count → j < top
+    → part_masks ≡ take count masks → part_levels ≡ take count levels → {b : Bool} → b ≡ true
+    → b ≡ rises S (blockers_in part_masks part_levels) j (blocker_at (unstamped_room part_masks part_levels) place) → get_or levels place 0 < top
+rises_exactly walked l h of_masks of_levels t test = rw (exactly walked l of_masks of_levels test t) h

@@ -1,17 +1,16 @@
 -- The walk along the table at one level where blockers sink: from one of this level to the next. Assumes nothing.
 use Prim.Native.Nat.{ℕ, zero, suc, ◌+◌, ◌-◌, ◌≤◌, ◌<◌}
 use mathlib.Core.Path.{◌≡◌, refl, sym, ap, ap₂, subst, fun_ext, ◌∙◌}
-use mathlib.Core.Bool.{Bool, true, false, not}
+use mathlib.Core.Bool.{Bool, true, false}
 use mathlib.Core.List.{List, [], ◌∷◌, ◌++◌}
 use native.Mathlib.Nat.{sub-zero}
 use native.Mathlib.Decide.{ℕ_discrete}
 use native.Mathlib.Omega.{arith}
-use borrow.Author.Tests.{not-true, not-false, lt-leb, lt-ltb, ltb-false, eqb-true}
+use borrow.Author.Tests.{lt-leb, lt-ltb, ltb-false, eqb-true}
 use lib.Dec.{leb, ltb, eqb}
 use lib.ListN.{length, get_or, drop}
 use Rattle.lists.specs.Tests.{◌and◌, ◌or◌, choose}
 use Rattle.lists.specs.Lists.{any, keep, each_from}
-use Rattle.lists.proofs.Tests.{holds, fails}
 use Rattle.masks.specs.Sets.{subset}
 use Rattle.machine.specs.System.{System}
 use Rattle.machine.specs.Machine.{Blocker, covers, blocked, rises, risen, frame}
@@ -20,7 +19,7 @@ use Rattle.machine.proofs.Unstamped.{unstamped_blocks}
 use Rattle.blockers.specs.Room.{table_of}
 use Rattle.blockers.proofs.Walks.{next_blocker, no_blocker}
 use Rattle.rising.specs.Risen.{risen_at}
-use Rattle.indexing.specs.Index.{Next, Index, sunk_level, RisenIn}
+use Rattle.indexing.specs.Index.{Passed, First, Index, sunk_level, RisenIn}
 use Rattle.sinking.specs.Sunk.{each_covered, TriedIn, LevelRisen}
 use Rattle.rising.proofs.Along.{along, along_ends, table_apart, one_more}
 use Rattle.sinking.proofs.Sinking.{sunken, pass_one, rise_one, frame_last}
@@ -193,20 +192,20 @@ module _ {S : System} {j held upto end : ℕ} {masks low places levels₀ : List
             ∙ sym (rise_one S j (front entered) (one entered) (rest entered) positive_level (tested entered (rw e t)))
 
   -- to the next place of this level, past others
-  skip : {from : ℕ} {levels : List ℕ} → Walk S j held upto end masks low places levels₀ from levels → {r : ℕ} → Next (λ other. eqb other j) levels from held r
-      → Walk S j held upto end masks low places levels₀ r levels
+  skip : {from : ℕ} {levels : List ℕ} → Walk S j held upto end masks low places levels₀ from levels → {r : ℕ}
+      → Passed (λ other. eqb other j) levels from held r → Walk S j held upto end masks low places levels₀ r levels
   unfolding ◌and◌
-  skip {from} {levels} walk {r} next = subst (λ (k : ℕ). Walk S j held upto end masks low places levels₀ k levels) whole (far (r - from) (omega (arith, next.before.begins)))
+  skip {from} {levels} walk {r} before = subst (λ (k : ℕ). Walk S j held upto end masks low places levels₀ k levels) whole (far (r - from) (omega (arith, before.begins)))
     where
       whole : from + (r - from) ≡ r
-      whole = omega (arith, next.before.begins)
+      whole = omega (arith, before.begins)
 
       far : (n : ℕ) → from + n ≤ r → Walk S j held upto end masks low places levels₀ (from + n) levels
       far zero h = let e : from ≡ from + zero = omega arith in subst (λ (k : ℕ). Walk S j held upto end masks low places levels₀ k levels) e walk
       far (suc n) h =
           let e : from + n + 1 ≡ from + suc n = omega arith in
           subst (λ (k : ℕ). Walk S j held upto end masks low places levels₀ k levels) e
-          (pass (far n (omega arith)) (omega (arith, next.before.within)) (rw (next.before.passed (from + n) (omega arith) (omega arith))))
+          (pass (far n (omega arith)) (omega (arith, before.within)) (rw (before.passed (from + n) (omega arith) (omega arith))))
 
 -- the walk at its end
 finished : {S : System} {j held upto end : ℕ} {masks low places levels₀ : List ℕ} {place : ℕ} {levels : List ℕ}
@@ -225,41 +224,20 @@ finished {S} {j} {held} {upto} {end} {masks} {low} {places} {levels₀} {place} 
           ∙ walk.left entered;
     }
 
--- what the code does with the blocker at the place that was found
-pub tries_stay : {test b : Bool} {place held : ℕ} {masks levels : List ℕ} → b ≡ test → not b ≡ true → TriedIn test place held masks levels levels
-tries_stay {b = b} e n = record { stays = λ f. refl; rises = λ t. absurd (fails (sym e ∙ not-true b n) (holds t)) }
-
-pub tries_rise : {test b : Bool} {place held : ℕ} {masks levels levels' : List ℕ} → b ≡ test → not b ≡ false → RisenIn place held masks levels levels'
-    → TriedIn test place held masks levels levels'
-tries_rise {b = b} e n change = record { stays = λ f. absurd (fails f (holds (sym e ∙ not-false b n))); rises = λ t. change }
-
 module _ {S : System} {j held upto end : ℕ} {masks low places levels₀ : List ℕ} {from : ℕ} {levels : List ℕ}
     (walk : Walk S j held upto end masks low places levels₀ from levels) where
-  pub walk_index : Index j held upto end masks levels low places
-  walk_index = walk.index
+  pub walk_goes : {place : ℕ} → First (λ other. eqb other j) levels from held place → {levels' : List ℕ}
+      → TriedIn (each_covered S (blockers_from (unstamped_room masks levels) held 0) j (get_or masks place 0)) place held masks levels levels'
+      → length levels' ≡ length levels → Walk S j held upto end masks low places levels₀ (place + 1) levels'
+  unfolding ◌and◌
+  walk_goes {place} first {levels'} tried long = at (each_covered S (blockers_from (unstamped_room masks levels) held 0) j (get_or masks place 0)) refl
+    where
+      at : (b : Bool) → each_covered S (blockers_from (unstamped_room masks levels) held 0) j (get_or masks place 0) ≡ b
+          → Walk S j held upto end masks low places levels₀ (place + 1) levels'
+      at true e = rise (skip walk first.before) first.below first.passes e (tried.rises e) long
+      at false e =
+          subst (λ (new : List ℕ). Walk S j held upto end masks low places levels₀ (place + 1) new) (sym (tried.stays e))
+          (pass (skip walk first.before) first.below (rw (first.passes, e)))
 
-  pub walk_levels : held ≤ length levels
-  walk_levels = walk.index.in_levels
-
-  module _ {place : ℕ} (next : Next (λ other. eqb other j) levels from held place) where
-    pub walk_below : {limit : ℕ} → place < held → j < limit → get_or levels place 0 < limit
-    walk_below l h = omega (arith, eqb-true (get_or levels place 0) j (next.found l))
-
-    pub walk_goes : place < held → {levels' : List ℕ}
-        → TriedIn (each_covered S (blockers_from (unstamped_room masks levels) held 0) j (get_or masks place 0)) place held masks levels levels'
-        → length levels' ≡ length levels → Walk S j held upto end masks low places levels₀ (place + 1) levels'
-    unfolding ◌and◌
-    walk_goes l {levels'} tried long = at (each_covered S (blockers_from (unstamped_room masks levels) held 0) j (get_or masks place 0)) refl
-      where
-        at : (b : Bool) → each_covered S (blockers_from (unstamped_room masks levels) held 0) j (get_or masks place 0) ≡ b
-            → Walk S j held upto end masks low places levels₀ (place + 1) levels'
-        at true e = rise (skip walk next) l (next.found l) e (tried.rises e) long
-        at false e =
-            subst (λ (new : List ℕ). Walk S j held upto end masks low places levels₀ (place + 1) new) (sym (tried.stays e))
-            (pass (skip walk next) l (rw (next.found l) e))
-
-    pub walk_none : held ≤ place → LevelRisen S j held masks levels₀ levels
-    walk_none l = finished (skip walk next) l
-
-  pub walk_ends : held ≤ from → LevelRisen S j held masks levels₀ levels
-  walk_ends l = finished walk l
+  pub walk_ends : Passed (λ other. eqb other j) levels from held held → LevelRisen S j held masks levels₀ levels
+  walk_ends before = finished (skip walk before) (omega arith)

@@ -1,14 +1,13 @@
 -- What the word room holds after each change: one place written, the places cleared, the word turned round. Assumes nothing.
-use Prim.Native.Nat.{ℕ, zero, suc, ◌+◌, ◌-◌, ◌≤◌, ◌<◌, max}
+use Prim.Native.Nat.{ℕ, zero, suc, ◌+◌, ◌-◌, ◌≤◌, max}
 use mathlib.Core.Path.{◌≡◌, refl, sym, ap, ◌∙◌}
 use mathlib.Core.List.{List, [], ◌∷◌, ◌++◌, append-nil, reverse, reverse-append}
-use native.Mathlib.Numerals.{add-one}
 use native.Mathlib.Omega.{arith}
-use lib.ListN.{length, get_or, take, drop, set, replicate, length-append, length-set, length-replicate, length-reverse, replicate-append-replicate}
+use lib.ListN.{length, get_or, take, drop, set, replicate, length-append, length-reverse}
 use borrow.Rule.Slice.PartMut.{put_mid}
-use lib.Seq.{take-suc, drop-cons, append_snoc, set_at, set_split, length-take-le}
+use lib.Seq.{take-suc, append_snoc, set_split, length-take-le}
 use Rattle.machine.specs.Machine.{word_of}
-use Rattle.machine.specs.Lent.{WordRoom, word_room_of, pending_first, column_back, placed, with_pending, with_word}
+use Rattle.machine.specs.Lent.{word_room_of, pending_first, column_back, placed, with_pending, with_word}
 use Rattle.machine.proofs.LentTables.{cases_front, symbols_front, placed_exact}
 use Rattle.wordroom.specs.Room.{Holds}
 
@@ -61,65 +60,19 @@ module _ (cases symbols : List ℕ) (count : ℕ) where
       )
 
 -- no entry in place of the first `count`: 0 in each of their places
-none_placed : (count : ℕ) (before : List ℕ) → placed count [] before ≡ replicate count 0 ++ drop count before
+pub none_placed : (table zeros : List ℕ) (count : ℕ) → count ≤ length table → zeros ≡ replicate (length (take (count - 0) table)) 0
+    → put_mid 0 (count - 0) table zeros ≡ placed count [] table
 unfolding placed
-none_placed count before =
-    let free : count - 0 ≡ count = omega arith in
+none_placed table zeros count h z =
+    let all : count - 0 ≡ count = omega arith in
     let most : max count 0 ≡ count = omega arith in
-    rw (free, most)
+    rw (z, all, most, length-take-le count table h)
 
--- and in one place more
-none_next : (at : ℕ) (before : List ℕ) → at < length before → set (placed at [] before) at 0 ≡ placed (at + 1) [] before
-none_next at before h =
-    rw (
-      none_placed at before,
-      none_placed (at + 1) before,
-      ← replicate-append-replicate {A = ℕ} at 1 0,
-      append_snoc (replicate at 0) 0 (drop (at + 1) before),
-      add-one,
-      drop-cons before at 0 h,
-    )
-    (set_at (replicate at 0) (get_or before at 0) (drop (suc at) before) 0 at (length-replicate at 0))
-
--- the walk over the first `count` places, before the one at `at`: 0 in those passed, and all else as it was
-pub record Clearing (count : ℕ) (before now : List ℕ) (at : ℕ) : Type 0 where
-  pub bound : at ≤ count
-  pub room : count ≤ length before
-  pub kept : length now ≡ length before
-  pub cleared : now ≡ placed at [] before
-
-pub clearing_starts : {count : ℕ} {before : List ℕ} → count ≤ length before → Clearing count before before 0
-unfolding placed
-clearing_starts room = record { bound = omega arith; room = room; kept = refl; cleared = refl }
-
-module _ {count at : ℕ} {before now : List ℕ} (walk : Clearing count before now at) where
-  pub clearing_next : at < count → Clearing count before (set now at 0) (at + 1)
-  clearing_next l =
-      record {
-        bound = omega arith;
-        room = walk.room;
-        kept = simp length-set walk.kept;
-        cleared = rw walk.cleared (none_next at before (omega (arith, walk.room)));
-      }
-
-  pub clearing_ends : count ≤ at → now ≡ placed count [] before
-  clearing_ends l = let e : at ≡ count = omega (arith, walk.bound) in walk.cleared ∙ ap (λ (n : ℕ). placed n [] before) e
-
--- both tables
-pub record ClearingBoth (count : ℕ) (before now : WordRoom) (at : ℕ) : Type 0 where
-  pub of_cases : Clearing count before.cases now.cases at
-  pub of_symbols : Clearing count before.symbols now.symbols at
-
-pub both_start : {count : ℕ} {room : WordRoom} → Holds count room → ClearingBoth count room room 0
-both_start holds = record { of_cases = clearing_starts holds.in_cases; of_symbols = clearing_starts holds.in_symbols }
-
-module _ {count at : ℕ} {before : WordRoom} {cases symbols : List ℕ} (walk : ClearingBoth count before (word_room_of cases symbols) at) where
-  pub both_next : at < count → ClearingBoth count before (word_room_of (set cases at 0) (set symbols at 0)) (at + 1)
-  both_next l = record { of_cases = clearing_next walk.of_cases l; of_symbols = clearing_next walk.of_symbols l }
-
-  pub both_end : count ≤ at → word_room_of cases symbols ≡ with_word count [] before
-  unfolding with_word
-  both_end l = rw (← clearing_ends walk.of_cases l, ← clearing_ends walk.of_symbols l)
+-- the room where nothing is pending any more
+pub word_cleared : (cases symbols cases' symbols' : List ℕ) (count : ℕ) → cases' ≡ placed count [] cases → symbols' ≡ placed count [] symbols
+    → word_room_of cases' symbols' ≡ with_word count [] (word_room_of cases symbols)
+unfolding with_word
+word_cleared cases symbols cases' symbols' count c s = rw (c, s)
 
 -- the symbols that led to the pending cases are those behind the first place, from the last to the first
 word_behind : (cases rest : List ℕ) (first count : ℕ) → count ≤ length rest

@@ -1,10 +1,11 @@
 -- Bytes put one after the other up to a limit, a line as it is written number by number. Assumes nothing.
-use Prim.Native.Nat.{ℕ, zero, suc, ◌+◌, ◌*◌, ◌^◌, ◌≤◌, ◌<◌}
-use mathlib.Core.Path.{◌≡◌, refl, sym, ap, ◌∙◌}
-use mathlib.Core.List.{List, [], ◌∷◌, ◌++◌}
+use Prim.Native.Nat.{ℕ, zero, suc, ◌+◌, ◌*◌, ◌≤◌, ◌<◌}
+use mathlib.Core.Path.{◌≡◌, refl, sym, ap, subst, ◌∙◌}
+use mathlib.Core.List.{List, [], ◌∷◌, ◌++◌, map}
 use native.Mathlib.Numerals.{add-one}
 use native.Mathlib.Omega.{arith}
 use lib.ListN.{length, get_or, drop, length-append, drop_of_length-le}
+use Rattle.std.proofs.lemmas.List.{get_or-map, length-map, map-id}
 use lib.Seq.{sets}
 use Rattle.lists.proofs.Lists.{drop_first}
 use Rattle.writing.specs.Decimal.{digits}
@@ -12,9 +13,6 @@ use Rattle.writing.specs.Lines.{newline, behind_number, numbers_line}
 use Rattle.writing.specs.Rooms.{no_bytes, fitted_bytes}
 use Rattle.writing.specs.Putting.{next_number, Puts}
 use Rattle.writing.proofs.Placing.{written_behind, bytes_short, bytes_fit}
-
-pub below_limit : (end limit : ℕ) → end ≤ limit → limit < 2 ^ 63 → end < 2 ^ 63
-below_limit end limit h k = omega arith
 
 -- bytes put behind others
 pub puts_joined : {a b : List ℕ} {start limit middle end : ℕ} {before between after : List ℕ} → Puts a start limit middle before between
@@ -51,14 +49,6 @@ module _ (at number : ℕ) where
   later_bytes zero l m r z em er = absurd (z refl)
   later_bytes (suc place) l m r z em er = written_behind l m r (32 ∷ []) (digits number) at (at + 1) em refl er
 
--- a newline within the limit, or behind it
-module _ (at limit : ℕ) where
-  pub newline_passed : {room : List ℕ} → limit < at → Puts (newline ∷ []) at limit at room room
-  newline_passed l = record { counted = omega arith; written = λ h. absurd (omega arith) }
-
-  pub newline_put : {before after : List ℕ} → after ≡ sets before at (10 ∷ []) → Puts (newline ∷ []) at limit (at + 1) before after
-  newline_put e = record { counted = refl; written = λ h. e }
-
 -- what is to come of a line at a place, before the numbers from there on
 unfoldable pub line_from : ℕ → List ℕ → List ℕ
 line_from zero numbers = numbers_line numbers
@@ -74,56 +64,61 @@ unfolding line_from numbers_line behind_number
 line_none zero = refl
 line_none (suc place) = refl
 
--- the loop over the numbers of a line, before place i: what is to come brings place and bytes to where the line brings them
-pub record Lining (numbers : List ℕ) (start : ℕ) (before room : List ℕ) (end i : ℕ) : Type 0 where
-  pub bound : i ≤ length numbers
+-- the loop over a table, each of which has a number, before place i: what is to come of their line brings place and bytes to where the line brings them
+pub record Lining {A : Type 0} (value : A → ℕ) (table : List A) (start : ℕ) (before room : List ℕ) (end i : ℕ) : Type 0 where
+  pub bound : i ≤ length table
   pub near : end ≤ start + 21 * i
   pub long : length room ≡ length before
-  pub counts : end + length (line_from i (drop i numbers)) ≡ start + length (numbers_line numbers)
-  pub writes : sets room end (line_from i (drop i numbers)) ≡ sets before start (numbers_line numbers)
+  pub counts : end + length (line_from i (drop i (map value table))) ≡ start + length (numbers_line (map value table))
+  pub writes : sets room end (line_from i (drop i (map value table))) ≡ sets before start (numbers_line (map value table))
 
-pub lining_starts : {numbers : List ℕ} {start : ℕ} {room : List ℕ} → Lining numbers start room room start 0
+pub lining_starts : {A : Type 0} {value : A → ℕ} {table : List A} {start : ℕ} {room : List ℕ} → Lining value table start room room start 0
 unfolding line_from
 lining_starts = record { bound = omega arith; near = omega arith; long = refl; counts = refl; writes = refl }
 
-module _ {numbers : List ℕ} {start : ℕ} {before room : List ℕ} {end i : ℕ} (p : Lining numbers start before room end i) where
+module _ {A : Type 0} {value : A → ℕ} {table : List A} {start : ℕ} {before room : List ℕ} {end i : ℕ} (p : Lining value table start before room end i) where
   -- what is to come: this number, and what is behind it
-  comes_more : i < length numbers → line_from i (drop i numbers) ≡ next_number i (get_or numbers i 0) ++ line_from (i + 1) (drop (i + 1) numbers)
-  comes_more l =
-      ap (line_from i) (drop_first numbers i l) ∙ line_more i (get_or numbers i 0) (drop (i + 1) numbers)
-      ∙ ap (λ (k : ℕ). next_number i (get_or numbers i 0) ++ line_from k (drop (i + 1) numbers)) (sym (add-one i))
+  comes_more : (number : ℕ) (item : A) → i < length table → item ≡ get_or table i item → number ≡ value item
+      → line_from i (drop i (map value table)) ≡ next_number i number ++ line_from (i + 1) (drop (i + 1) (map value table))
+  comes_more number item l is told =
+      let here : get_or (map value table) i 0 ≡ number = get_or-map value table i item 0 l ∙ ap value (sym is) ∙ sym told in
+      ap (line_from i) (drop_first (map value table) i (omega (arith, length-map table value)))
+      ∙ ap (λ (n : ℕ). line_from i (n ∷ drop (i + 1) (map value table))) here
+      ∙ line_more i number (drop (i + 1) (map value table))
+      ∙ ap (λ (k : ℕ). next_number i number ++ line_from k (drop (i + 1) (map value table))) (sym (add-one i))
 
-  pub lining_next : (after : List ℕ) (next : ℕ) → i < length numbers → next ≡ end + length (next_number i (get_or numbers i 0)) → next ≤ end + 21
-      → after ≡ sets room end (next_number i (get_or numbers i 0)) → length after ≡ length room → Lining numbers start before after next (i + 1)
-  lining_next after next l place close bytes kept =
-      let number = next_number i (get_or numbers i 0) in
-      let rest = line_from (i + 1) (drop (i + 1) numbers) in
-      let split : length (line_from i (drop i numbers)) ≡ length number + length rest = ap length (comes_more l) ∙ length-append number rest in
+  pub lining_next : (after : List ℕ) (next number : ℕ) (item : A) → i < length table → item ≡ get_or table i item → number ≡ value item
+      → next ≡ end + length (next_number i number) → next ≤ end + 21 → after ≡ sets room end (next_number i number) → length after ≡ length room
+      → Lining value table start before after next (i + 1)
+  lining_next after next number item l is told place close bytes kept =
+      let rest = line_from (i + 1) (drop (i + 1) (map value table)) in
+      let more = comes_more number item l is told in
+      let split : length (line_from i (drop i (map value table))) ≡ length (next_number i number) + length rest
+      = ap length more ∙ length-append (next_number i number) rest in
       record {
         bound = omega arith;
         near = omega (arith, p.near);
         long = kept ∙ p.long;
         counts = omega (arith, p.counts, split, place);
-        writes = written_behind room after _ number rest end next bytes place refl ∙ ap (sets room end) (sym (comes_more l)) ∙ p.writes;
+        writes = written_behind room after _ (next_number i number) rest end next bytes place refl ∙ ap (sets room end) (sym more) ∙ p.writes;
       }
 
-  pub lining_near : {last : ℕ} → last ≤ end + 1 → last ≤ start + 21 * length numbers + 1
-  lining_near l = omega (arith, p.bound, p.near)
+  none_comes : length table ≤ i → line_from i (drop i (map value table)) ≡ newline ∷ []
+  none_comes h = ap (line_from i) (drop_of_length-le (map value table) (omega (arith, length-map table value))) ∙ line_none i
 
-  pub lining_passed : {limit : ℕ} → limit < end → Puts (numbers_line numbers) start limit end before room
-  lining_passed l = record { counted = omega (arith, p.counts); written = λ h. absurd (omega arith) }
-
-  none_comes : length numbers ≤ i → line_from i (drop i numbers) ≡ newline ∷ []
-  none_comes h = ap (line_from i) (drop_of_length-le numbers h) ∙ line_none i
-
-  pub lining_ends : {limit last : ℕ} {after : List ℕ} → length numbers ≤ i → Puts (newline ∷ []) end limit last room after
-      → Puts (numbers_line numbers) start limit last before after
+  pub lining_ends : {limit last : ℕ} {after : List ℕ} → length table ≤ i → Puts (newline ∷ []) end limit last room after
+      → Puts (numbers_line (map value table)) start limit last before after
   lining_ends h q =
-      let one : length (line_from i (drop i numbers)) ≡ 1 = ap length (none_comes h) in
+      let one : length (line_from i (drop i (map value table))) ≡ 1 = ap length (none_comes h) in
       record {
         counted = omega (arith, p.counts, q.counted, one);
         written = λ u. q.written u ∙ sym (ap (sets room end) (none_comes h)) ∙ p.writes;
       }
+
+-- the line of numbers that are their own values
+pub own_line : (numbers : List ℕ) {start limit end : ℕ} {before after : List ℕ}
+    → Puts (numbers_line (map (λ (number : ℕ). number) numbers)) start limit end before after → Puts (numbers_line numbers) start limit end before after
+own_line numbers {start} {limit} {end} {before} {after} p = subst (λ (l : List ℕ). Puts (numbers_line l) start limit end before after) (map-id numbers) p
 
 -- bytes that were counted in a room without places, and then written if they fit
 module _ (success : ℕ) (bytes room : List ℕ) (size : ℕ) (before after : List ℕ) (counted : Puts bytes 0 (length room) size before after) where

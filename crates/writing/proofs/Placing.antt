@@ -1,4 +1,4 @@
--- The laws of bytes in a room: in two parts, one byte, a number's digits; and the answer that bytes make which fit, or do not. Assumes nothing.
+-- The laws of bytes in a room: in two parts, a number's digits; and the answer that bytes make which fit, or do not. Assumes nothing.
 use Prim.Native.Nat.{ℕ, suc, ◌+◌, ◌/◌, ◌%◌, ◌^◌, ◌≤◌, ◌<◌}
 use mathlib.Core.Path.{◌≡◌, refl, sym, ap, ◌∙◌}
 use mathlib.Core.List.{List, [], ◌∷◌, ◌++◌}
@@ -7,7 +7,7 @@ use native.Mathlib.Decide.{dec_le}
 use native.Mathlib.Omega.{arith}
 use borrow.Author.Tests.{le-leb, lt-leb, leb-true}
 use lib.ListN.{length, drop, set, length-append, length-drop}
-use lib.Seq.{sets, sets-eq, set_out, drop-append_seam}
+use lib.Seq.{sets, sets-eq, drop-append_seam}
 use Rattle.lists.proofs.Tests.{choose_true, choose_false, choose_either}
 use Rattle.writing.specs.Decimal.{digits}
 use Rattle.writing.specs.Rooms.{no_bytes, all_bytes, PastStays, fitted_bytes}
@@ -22,10 +22,6 @@ sets_append l i (x ∷ a) b = rw (add-suc, ← suc-add) (sets_append (set l i x)
 pub written_behind : (l m r a b : List ℕ) (at end : ℕ) → m ≡ sets l at a → end ≡ at + length a → r ≡ sets m end b → r ≡ sets l at (a ++ b)
 written_behind l m r a b at end em ee er =
     er ∙ ap (λ (k : ℕ). sets m k b) ee ∙ ap (λ (x : List ℕ). sets x (at + length a) b) em ∙ sym (sets_append l at a b)
-
--- a byte behind the room changes nothing
-pub byte_behind : (room : List ℕ) (at byte : ℕ) → length room ≤ at → room ≡ sets room at (byte ∷ [])
-byte_behind room at byte h = sym (set_out room at byte h)
 
 -- a number's digits from a place on: the only one, or the last behind those of the number divided by ten
 module _ (at number : ℕ) where

@@ -2,7 +2,6 @@
 -- definitions.
 use Rattle.std.specs.Prelude.{ℕ, ◌≡◌, List, ◌++◌, leb, length, drop}
 use Rattle.lists.specs.Tests.{choose}
-use Rattle.writing.specs.declared.Written.{Written}
 
 -- the number, the length written, and what the room then holds
 pub record Answer : Type 0 where
@@ -11,8 +10,8 @@ pub record Answer : Type 0 where
   pub room : List ℕ
 
 -- what a function answers and leaves
-abbrev pub answer_of : Written → List ℕ → Answer
-answer_of made room = record { number = made.number; written = made.length; room = room }
+abbrev pub answer_of : ℕ → ℕ → List ℕ → Answer
+answer_of number length room = record { number = number; written = length; room = room }
 
 -- "on every other number nothing is written and the length is 0"
 unfoldable pub no_bytes : ℕ → List ℕ → Answer

@@ -97,6 +97,12 @@ fn small_repository() -> Repository {
              ensures byte { .. }\n    ensures near { .. }\n{\n}\n\nfn plain() {\n    first(ensures)\n}\n",
         ),
         ("crates/lists/src/walks.rt", "pub(crate) fn walk() {\n}\n"),
+        (
+            "crates/lists/src/lent.rt",
+            "pub struct Lent<'a> {\n    pub table: &'a [u8],\n}\n\nimpl<'a> Lent<'a> {\n    pub fn length(&self) \
+             -> usize\n        ensures { .. }\n    {\n    }\n}\n\npub trait Sized {\n    fn size(&self) -> usize;\n}\n\n\
+             impl<T: Into<u8>> From<T> for Lent<'_> {\n    fn from(it: T) -> Self {\n    }\n}\n",
+        ),
         ("crates/lists/must-fail/last_found.edit", ""),
         (
             "crates/lists/specs/Answers.antt",
@@ -143,6 +149,8 @@ fn names_that_stand() {
         "Noticed by lists: `last_found`; tests `spans`, `examples`. The test `spans` (`near`)",
         "`first` and `Kept::more` in\n`lists/src/lib.rt`, `held` of `Kept`, `walk` of `lists::walks`",
         "`lists::walks::walk`, `lists::Kept::more`, `Kept::more`, `walks::walk`, `lists::walks`",
+        "`lists::lent::Lent::length`, `Lent::from`, `Sized::size`, `Sized`",
+        "`table` of `Lent`; contract of `Lent::length`",
         "`afa_read`, `held_by`, `Rules`, `lists`, `walks`, `lists/src/`, `include/afa.h`, `src/`",
         "`first (held_by x) 5`, `--json`, `first LIST ..`",
         "`both`. `nowhere` of `Found` and `Found` in `lists/specs/Answers.antt`; contract of `last`",
@@ -202,6 +210,8 @@ fn names_that_do_not() {
         ("`_`", "lists::walks::first", "is declared nowhere"),
         ("`_`", "lists::Kept::first", "is declared nowhere"),
         ("`_`", "Kept::first", "is declared nowhere"),
+        ("`_`", "Lent::size", "is declared nowhere"),
+        ("`_`", "Sized::from", "is declared nowhere"),
         ("`_`", "gone", "is declared nowhere"),
         ("`_`", "called", "is declared nowhere"),
         ("`_`", "byte", "is declared nowhere"),

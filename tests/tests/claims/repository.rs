@@ -8,7 +8,7 @@ use std::path::Path;
 /// A name where it is declared.
 pub struct Declared {
     pub file: String,
-    /// The record, struct, enum or impl that it belongs to.
+    /// The record, struct, enum, trait or impl that it belongs to.
     pub inside: Option<String>,
     /// From its first line up to the next declaration.
     pub text: String,
@@ -68,7 +68,7 @@ impl Repository {
         such.map(|(name, _)| name.as_str()).collect()
     }
 
-    /// The names that the record, struct, enum or impl has.
+    /// The names that the record, struct, enum, trait or impl has.
     pub fn members(&self, of: &str) -> Vec<&str> {
         self.names(|found| found.inside.as_deref() == Some(of))
     }
@@ -127,9 +127,13 @@ struct Around {
 
 impl Around {
     fn begun(content: &str, indent: usize) -> Option<Self> {
-        for keyword in ["record ", "data ", "struct ", "enum ", "impl "] {
+        for keyword in ["record ", "data ", "struct ", "enum ", "trait ", "impl"] {
             let Some(rest) = content.strip_prefix(keyword) else {
                 continue;
+            };
+            let rest = match keyword {
+                "impl" => behind_parameters(rest),
+                _ => rest,
             };
             let of = rest.split_once(" for ").map_or(rest, |(_, of)| of);
             let name = identifier(of).to_owned();
@@ -185,6 +189,20 @@ fn bare(content: &str) -> &str {
     rest.next().map_or(content, bare)
 }
 
+/// What follows a space, or parameters in angle brackets and a space.
+fn behind_parameters(text: &str) -> &str {
+    let mut depth = 0;
+    for (at, c) in text.char_indices() {
+        match c {
+            '<' => depth += 1,
+            '>' => depth -= 1,
+            ' ' if depth == 0 => return &text[at + 1..],
+            _ => {}
+        }
+    }
+    ""
+}
+
 /// The letters, digits and underscores in front.
 fn identifier(text: &str) -> &str {
     let end = text.find(|c: char| !c.is_ascii_alphanumeric() && c != '_');
@@ -209,7 +227,7 @@ fn specified(content: &str) -> Vec<&str> {
 
 /// The name of a line of code: an item's, a function's of the C header, a field's or a variant's.
 fn coded<'a>(content: &'a str, around: Option<&Around>) -> Option<&'a str> {
-    let items = "fn |const fn |struct |enum |mod |const |static |type |uint64_t ";
+    let items = "fn |const fn |struct |enum |trait |mod |const |static |type |uint64_t ";
     let mut rest = items
         .split('|')
         .filter_map(|item| content.strip_prefix(item));

@@ -17,7 +17,7 @@ pub const EXCEPTIONS: [(&str, &str); 24] = [
     ("true", RATTLE),
     ("search", RATTLE),
     ("&&", RATTLE),
-    ("let Image::Valid(..) = .. else", RATTLE),
+    ("let Ok(..) = .. else", RATTLE),
     ("rt", COMMAND),
     ("ci", COMMAND),
     ("cargo", COMMAND),

@@ -1,6 +1,6 @@
-use Rattle.machine.specs.Machine.{covers}
+use Rattle.blockers.proofs.Levels.{covering}
+use borrow.Author.Rules.{rules}
 use Rattle.blockers.proofs.covers.Goals as goal
 
 pub returns : goal.returns
-unfolding covers
-returns c = cc
+returns c = search (covering, rules)

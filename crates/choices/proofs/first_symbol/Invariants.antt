@@ -1,17 +1,10 @@
-use Prim.Native.Nat.{◌-◌}
-use lib.ListN.{length}
+use Rattle.blockers.specs.Answers.{Skips}
+use Rattle.blockers.specs.Tables.{held_in}
 use Rattle.choices.proofs.Symbols.{SymbolsTried}
-use Rattle.choices.proofs.Symbols.{BlockersTried}
 use Rattle.choices.proofs.first_symbol.Given as goal
 
 abbrev pub invariant-loop-i : goal.invariant-loop-i
-invariant-loop-i l = BlockersTried l.masks l.levels l.below.0 l.p l.symbol.0 l.s l.i
-
-abbrev pub decreases-loop-i : goal.decreases-loop-i
-decreases-loop-i l = length l.masks - l.i
+invariant-loop-i l = Skips l.blockers.masks.now l.blockers.levels.now l.below.0 l.p 0 l.i
 
 abbrev pub invariant-symbols : goal.invariant-symbols
-invariant-symbols l = SymbolsTried l.image l.masks l.levels l.below.0 l.x l.s-end l.s
-
-abbrev pub decreases-symbols : goal.decreases-symbols
-decreases-symbols l = l.s-end - l.s
+invariant-symbols l = SymbolsTried l.image (held_in l.blockers) l.below.0 l.x l.s-end l.s

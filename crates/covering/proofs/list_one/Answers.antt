@@ -5,8 +5,8 @@ use Rattle.covering.proofs.list_one.Goals as goal
 pub returns-then-near-end : goal.returns-then-near-end
 returns-then-near-end c = search (one_full, rules)
 
-pub returns-then-not-is_there : goal.returns-then-not-is_there
-returns-then-not-is_there c = search (one_misses, rules)
+pub returns-then-is_none : goal.returns-then-is_none
+returns-then-is_none c = search (one_misses, rules)
 
 pub returns : goal.returns
 returns c = search (one_joins, rules)

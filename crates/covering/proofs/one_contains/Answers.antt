@@ -1,15 +1,12 @@
-use borrow.Author.Rules.{rules}
-use Rattle.covering.proofs.Covering.{search_starts, search_finds, search_goes, search_ends}
+use Rattle.std.proofs.Common.{rules, tests}
+use Rattle.std.proofs.lemmas.Iterator.{YieldsList-from_slice}
+use Rattle.std.proofs.lemmas.Iterator.Search.{any_from_yields_List}
+use mathlib.Core.Path.{◌∙◌}
+use Rattle.masks.specs.Sets.{subset}
+use Rattle.covering.proofs.Covering.{one_of}
 use Rattle.covering.proofs.one_contains.Goals as goal
 
-pub loop-i-init : goal.loop-i-init
-loop-i-init c = search (search_starts, rules)
-
-pub returns-then-adds_none : goal.returns-then-adds_none
-returns-then-adds_none c = search (search_finds, rules)
-
-pub loop-i-preserved : goal.loop-i-preserved
-loop-i-preserved c = search (search_goes, rules)
-
 pub returns : goal.returns
-returns c = search (search_ends, rules)
+returns c =
+    any_from_yields_List (subset c.args.p) _ _ _ c.any.ensures.ran (YieldsList-from_slice c.args.list.now cc) (λ x b q k. search (rules, tests))
+    ∙ one_of c.args.list.now c.args.p

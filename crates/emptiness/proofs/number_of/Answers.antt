@@ -2,10 +2,10 @@ use borrow.Author.Rules.{rules}
 use Rattle.automata.specs.Answers.{image_number}
 use Rattle.emptiness.proofs.number_of.Goals as goal
 
-pub returns-in-Valid : goal.returns-in-Valid
+pub returns-in-Ok : goal.returns-in-Ok
 unfolding image_number
-returns-in-Valid c = search rules
+returns-in-Ok c = search rules
 
-pub returns-in-Refused : goal.returns-in-Refused
+pub returns-in-Err : goal.returns-in-Err
 unfolding image_number
-returns-in-Refused c = search rules
+returns-in-Err c = search rules

@@ -1,9 +1,19 @@
-use Rattle.exports.proofs.Heads.{number_refused, head_refused, number_valid, head_valid}
-use borrow.Author.Rules.{rules}
+use Rattle.std.proofs.Common.{rules}
+use Rattle.automata.specs.Answers.{image_number, head_after}
 use Rattle.exports.proofs.afa_read.Goals as goal
 
-pub returns-in-Refused : goal.returns-in-Refused
-returns-in-Refused c = record { number = search (number_refused, rules); values = search (head_refused, rules) }
+pub returns-in-Err-clause-number : goal.returns-in-Err-clause-number
+unfolding image_number
+returns-in-Err-clause-number c = search rules
 
-pub returns-in-Valid : goal.returns-in-Valid
-returns-in-Valid c = record { number = search (number_valid, rules); values = search (head_valid, rules) }
+pub returns-in-Err-clause-values : goal.returns-in-Err-clause-values
+unfolding head_after
+returns-in-Err-clause-values c = search rules
+
+pub returns-in-Ok-clause-number : goal.returns-in-Ok-clause-number
+unfolding image_number
+returns-in-Ok-clause-number c = search rules
+
+pub returns-in-Ok-clause-values : goal.returns-in-Ok-clause-values
+unfolding head_after
+returns-in-Ok-clause-values c = search rules

@@ -1,6 +1,7 @@
-use Rattle.exports.proofs.Runs.{ran_is}
-use borrow.Author.Rules.{rules}
+use Rattle.std.proofs.Common.{rules}
+use Rattle.machine.specs.Runs.{five_numbers}
 use Rattle.exports.proofs.afa_run.Goals as goal
 
 pub returns : goal.returns
-returns c = search (ran_is, rules)
+unfolding five_numbers
+returns c = search rules

@@ -1,15 +1,16 @@
+use mathlib.Core.Path.{ap, ◌∙◌}
+use Rattle.std.specs.Prelude.{Some}
 use Rattle.exports.proofs.Reasons.{told_above, told_blocker, told_start, told_nothing}
-use borrow.Author.Rules.{rules}
 use Rattle.exports.proofs.afa_why.Goals as goal
 
-pub returns-then-level-gt4294967295 : goal.returns-then-level-gt4294967295
-returns-then-level-gt4294967295 c = search (told_above, c.type_inv.levels, rules)
+pub returns-in_default : goal.returns-in_default
+returns-in_default c = told_above _ _ _ _ _ c.type_inv.levels c.in_default.ensures
 
-pub returns-in-Nothing : goal.returns-in-Nothing
-returns-in-Nothing c = search (told_nothing, rules)
+pub returns-in-None : goal.returns-in-None
+returns-in-None c = told_nothing _ _ _ _ _ c.in-Ok.ensures.1 _ c.why.ensures c.in-None.is
 
-pub returns-in-ByBlocker : goal.returns-in-ByBlocker
-returns-in-ByBlocker c = search (told_blocker, rules)
+pub returns-in-Some-ByBlocker : goal.returns-in-Some-ByBlocker
+returns-in-Some-ByBlocker c = told_blocker _ _ _ _ _ c.in-Ok.ensures.1 _ c.why.ensures _ c.in-Some-ByBlocker.its (c.in-Some-ByBlocker.is ∙ ap Some c.in-Some-ByBlocker.field-0-is) c.from.ensures
 
-pub returns-in-ByStart : goal.returns-in-ByStart
-returns-in-ByStart c = search (told_start, rules)
+pub returns-in-Some-ByStart : goal.returns-in-Some-ByStart
+returns-in-Some-ByStart c = told_start _ _ _ _ _ c.in-Ok.ensures.1 _ c.why.ensures c.in-Some-ByStart.q (c.in-Some-ByStart.is ∙ ap Some c.in-Some-ByStart.field-0-is) c.from-in-Some-ByStart.ensures

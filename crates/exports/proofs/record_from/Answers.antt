@@ -1,5 +1,5 @@
+use Rattle.std.proofs.Common.{rules}
 use Rattle.lists.specs.Tests.{neg}
-use borrow.Author.Rules.{rules}
 use Rattle.exports.proofs.record_from.Goals as goal
 
 pub returns : goal.returns

@@ -3,14 +3,14 @@ use Rattle.hitting.proofs.Grows.{room_enough, few_enough, grown}
 use borrow.Author.Rules.{rules}
 use Rattle.hitting.proofs.grow_in.Goals as goal
 
-pub gather-count-requires : goal.gather-count-requires
-gather-count-requires c = search (room_enough, rules)
+pub gather-requires : goal.gather-requires
+gather-requires g c = search (room_enough, rules)
 
 pub pick-picked-requires : goal.pick-picked-requires
-pick-picked-requires c = search (some_state, states_fit, few_enough, rules)
+pick-picked-requires g c = search (some_state, states_fit, few_enough, rules)
 
 pub full-requires : goal.full-requires
-full-requires c = search (some_state, states_fit, rules)
+full-requires g c = search (some_state, states_fit, rules)
 
 pub returns : goal.returns
-returns c = search (grown, rules)
+returns g c = search (grown, rules)

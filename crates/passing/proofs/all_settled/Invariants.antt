@@ -1,11 +1,7 @@
-use Prim.Native.Nat.{◌-◌}
 use Rattle.machine.specs.Machine.{settled}
-use Rattle.machine.specs.Lent.{blockers_in}
+use Rattle.blockers.specs.Tables.{held_in}
 use Rattle.automata.proofs.EachSymbol.{EachTried}
 use Rattle.passing.proofs.all_settled.Given as goal
 
-abbrev pub invariant-loop-symbol : goal.invariant-loop-symbol
-invariant-loop-symbol l = EachTried l.image (settled l.head.initial (blockers_in l.masks l.levels) l.below.0 l.y) l.y l.head.symbols l.symbol.0
-
-abbrev pub decreases-loop-symbol : goal.decreases-loop-symbol
-decreases-loop-symbol l = l.head.symbols - l.symbol.0
+abbrev pub invariant-loop-s : goal.invariant-loop-s
+invariant-loop-s l = EachTried l.image (settled l.head.initial (held_in l.blockers) l.below.0 l.y) l.y l.head.symbols l.s

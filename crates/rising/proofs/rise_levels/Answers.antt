@@ -1,21 +1,17 @@
+use Prim.Native.Nat.{◌≤◌}
+use native.Mathlib.Omega.{arith}
 use borrow.Author.Rules.{rules}
-use Rattle.rising.proofs.Levels.{level_fits, level_nears, levels_start, levels_go, levels_end}
+use Rattle.rising.proofs.Levels.{levels_start, levels_go, levels_end, levels_last}
 use Rattle.rising.proofs.rise_levels.Goals as goal
 
-pub loop-head-init : goal.loop-head-init
-loop-head-init c = search (levels_start, rules)
+pub loop-level-init : goal.loop-level-init
+loop-level-init c = record { risen = search (levels_start, rules); same = search rules }
 
-pub rise_level-count-requires : goal.rise_level-count-requires
-rise_level-count-requires c = search (level_fits, rules)
+pub loop-level-preserved : goal.loop-level-preserved
+loop-level-preserved c = record { risen = search (levels_go, rules); same = search rules }
 
-pub above-level-requires : goal.above-level-requires
-above-level-requires c = search (level_fits, rules)
+pub returns-clause-risen : goal.returns-clause-risen
+returns-clause-risen c = search (levels_end, rules)
 
-pub loop-head-smaller : goal.loop-head-smaller
-loop-head-smaller c = search (level_nears, rules)
-
-pub loop-head-preserved : goal.loop-head-preserved
-loop-head-preserved c = search (levels_go, rules)
-
-pub returns : goal.returns
-returns c = search (levels_end, rules)
+pub returns-2-clause-risen : goal.returns-2-clause-risen
+returns-2-clause-risen c = let last : c.args.top.0 ≤ c.loop-level.level = omega arith in search (levels_last, last, rules)

@@ -3,8 +3,9 @@ use Rattle.machine.specs.Runs.{system_of}
 use Rattle.sinking.proofs.Walking.{Walk}
 use Rattle.sinking.proofs.rise_level.Given as goal
 
-abbrev pub invariant-loop-from : goal.invariant-loop-from
-invariant-loop-from l = Walk (system_of l.image) l.level.0 l.held l.listed.upto l.listed.end l.masks l.low l.places l.initial.levels l.from l.levels
+abbrev pub invariant-loop-place : goal.invariant-loop-place
+invariant-loop-place g l =
+    Walk (system_of l.image) l.level.0 l.held l.index.upto l.index.end l.lacks.masks.now l.index.low l.index.places l.initial.levels l.from l.levels
 
-abbrev pub decreases-loop-from : goal.decreases-loop-from
-decreases-loop-from l = l.held - l.from
+abbrev pub decreases-loop-place : goal.decreases-loop-place
+decreases-loop-place g l = l.held - l.from

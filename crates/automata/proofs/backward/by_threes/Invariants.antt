@@ -3,7 +3,7 @@ use Rattle.automata.specs.Walk.{Walking}
 use Rattle.automata.proofs.backward.by_threes.Given as goal
 
 abbrev pub invariant-loop-at : goal.invariant-loop-at
-invariant-loop-at l = Walking l.image l.rows.start l.rows.end l.x l.at l.set
+invariant-loop-at l = Walking l.bytes l.rows.start l.rows.end l.x l.at l.set
 
 abbrev pub decreases-loop-at : goal.decreases-loop-at
 decreases-loop-at l = l.rows.end - l.at

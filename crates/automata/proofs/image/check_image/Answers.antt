@@ -18,9 +18,9 @@ pub returns-then-rows-gt4096 : goal.returns-then-rows-gt4096
 unfolding check_image
 returns-then-rows-gt4096 c = search image_checks depth 12
 
-pub returns-then-image-symbols : goal.returns-then-image-symbols
+pub returns-then-image-from : goal.returns-then-image-from
 unfolding check_image
-returns-then-image-symbols c = search image_checks depth 12
+returns-then-image-from c = search image_checks depth 12
 
 pub returns-then-not-within : goal.returns-then-not-within
 unfolding check_image

@@ -7,6 +7,6 @@ pub returns-then-number-eq0 : goal.returns-then-number-eq0
 unfolding outside
 returns-then-number-eq0 c = sym (search tests)
 
-pub returns : goal.returns
+pub returns-else-number-eq0 : goal.returns-else-number-eq0
 unfolding outside
-returns c = sym (search tests)
+returns-else-number-eq0 c = sym (search tests)

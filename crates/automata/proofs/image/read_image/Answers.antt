@@ -1,24 +1,15 @@
-use Rattle.automata.proofs.Reading.{read_refused, read_valid, head_in}
+use Rattle.std.proofs.lemmas.Result.{err_from_is_err_and}
+use Rattle.automata.proofs.Reading.{none_refused, refused, head_read}
 use borrow.Author.Rules.{rules}
 use Rattle.automata.proofs.image.read_image.Goals as goal
 
-pub returns-then-number-ne0 : goal.returns-then-number-ne0
-returns-then-number-ne0 c = search (read_refused, rules)
+pub returns-in_err-check_image : goal.returns-in_err-check_image
+returns-in_err-check_image c =
+    let p = err_from_is_err_and c.from_residual.result c.from_residual.ensures.1 in
+    rw (p.1, p.2) (refused _ _ c.in_err-check_image.ensures)
 
-pub bounds-image-0 : goal.bounds-image-0
-bounds-image-0 c = search (head_in, rules)
-
-pub bounds-image-1 : goal.bounds-image-1
-bounds-image-1 c = search (head_in, rules)
-
-pub read2-rows-requires : goal.read2-rows-requires
-read2-rows-requires c = search (head_in, rules)
-
-pub read8-initial-requires : goal.read8-initial-requires
-read8-initial-requires c = search (head_in, rules)
-
-pub read8-finals-requires : goal.read8-finals-requires
-read8-finals-requires c = search (head_in, rules)
+pub invariant_of-result : goal.invariant_of-result
+invariant_of-result c = search (head_read, rules)
 
 pub returns : goal.returns
-returns c = search (read_valid, rules)
+returns c = search (none_refused, rules)

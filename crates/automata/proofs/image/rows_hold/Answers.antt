@@ -1,15 +1,15 @@
-use borrow.Author.Rules.{rules}
-use Rattle.automata.proofs.Checks.{rows_none, row_fails, row_next, rows_end}
+use mathlib.Core.Path.{refl, ◌∙◌}
+use native.Mathlib.Nat.{sub-zero}
+use Rattle.std.proofs.Common.{rules, tests}
+use Rattle.std.proofs.lemmas.Iterator.{YieldsList-from_range}
+use Rattle.std.proofs.lemmas.Iterator.Search.{all_from_yields_List}
+use Rattle.automata.specs.Image.{row_holds, rows_hold}
+use Rattle.automata.proofs.Checks.{each_listed}
 use Rattle.automata.proofs.image.rows_hold.Goals as goal
 
-pub loop-i-init : goal.loop-i-init
-loop-i-init c = search (rows_none, rules)
-
-pub returns-then-not-row_holds : goal.returns-then-not-row_holds
-returns-then-not-row_holds c = search (row_fails, rules)
-
-pub loop-i-preserved : goal.loop-i-preserved
-loop-i-preserved c = search (row_next, rules)
-
 pub returns : goal.returns
-returns c = search (rows_end, rules)
+unfolding rows_hold
+returns c =
+    all_from_yields_List (row_holds c.args.image.now) _ _ _ c.all.ensures.ran (YieldsList-from_range 0 _ _ refl (sub-zero _)) (λ x b q k. search (rules, tests))
+    ∙ each_listed (row_holds c.args.image.now) _ 0
+    ∙ rw (c.from-rows.ensures, c.read2.ensures) refl

@@ -1,15 +1,14 @@
-use borrow.Author.Rules.{rules}
-use Rattle.automata.proofs.WordTests.{symbols_none, symbol_above, symbol_below, symbols_end}
+use lib.Dec.{ltb}
+use Rattle.std.proofs.Common.{rules, tests}
+use Rattle.std.proofs.lemmas.Iterator.{YieldsList-from_slice}
+use Rattle.std.proofs.lemmas.Iterator.Search.{all_from_yields_List}
+use mathlib.Core.Path.{◌∙◌}
+use Rattle.automata.specs.WordTest.{known}
+use Rattle.automata.proofs.WordTests.{all_listed}
 use Rattle.automata.proofs.word.symbols_below.Goals as goal
 
-pub loop-i-init : goal.loop-i-init
-loop-i-init c = search (symbols_none, rules)
-
-pub returns-then-symbols-word : goal.returns-then-symbols-word
-returns-then-symbols-word c = search (symbol_above, rules)
-
-pub loop-i-preserved : goal.loop-i-preserved
-loop-i-preserved c = search (symbol_below, rules)
-
 pub returns : goal.returns
-returns c = search (symbols_end, rules)
+unfolding known
+returns c =
+    all_from_yields_List (λ s. ltb s c.args.symbols) _ _ _ c.all.ensures.ran (YieldsList-from_slice c.args.word.now cc) (λ x b q k. search (rules, tests))
+    ∙ all_listed (λ s. ltb s c.args.symbols) c.args.word.now

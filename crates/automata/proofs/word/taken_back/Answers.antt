@@ -1,15 +1,11 @@
-use borrow.Author.Rules.{rules}
-use Rattle.automata.proofs.WordTests.{taken_none, last_known, taken_more, taken_end}
+use Rattle.automata.proofs.WordTests.{back_starts, back_known, back_goes}
 use Rattle.automata.proofs.word.taken_back.Goals as goal
 
-pub loop-i-init : goal.loop-i-init
-loop-i-init c = search (taken_none, rules)
+pub loop-s-init : goal.loop-s-init
+loop-s-init c = rw (c.into_iter-s-iterator.ensures.into_iter_gives, c.rev-s-items.ensures.source, c.iter.ensures.rest) (back_starts _)
 
 pub backward-case-requires : goal.backward-case-requires
-backward-case-requires c = search (last_known, rules)
+backward-case-requires c = back_known c.loop-s.invariant _ _ c.in-Some.ensures.steps c.requires
 
-pub loop-i-preserved : goal.loop-i-preserved
-loop-i-preserved c = search (taken_more, rules)
-
-pub returns : goal.returns
-returns c = search (taken_end, rules)
+pub loop-s-preserved : goal.loop-s-preserved
+loop-s-preserved c = back_goes c.loop-s.invariant _ _ c.in-Some.ensures.steps _ c.backward-case.ensures.states

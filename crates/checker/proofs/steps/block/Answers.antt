@@ -1,17 +1,10 @@
-use Rattle.blockers.proofs.Parts.{part_masks, part_levels}
-use Rattle.checker.proofs.Stages.{ready_read}
-use Rattle.checker.proofs.Blocking.{block_countable, block_is}
-use borrow.Author.Rules.{rules}
+use mathlib.Core.Path.{ap₂}
+use Rattle.machine.specs.Lent.{blockers_in}
+use Rattle.checker.specs.Stage.{terms_given}
+use Rattle.checker.proofs.Blocking.{block_is}
 use Rattle.checker.proofs.steps.block.Goals as goal
 
-pub slice_bounds-choose_set-end-2 : goal.slice_bounds-choose_set-end-2
-slice_bounds-choose_set-end-2 c = search (part_masks, ready_read, rules)
-
-pub slice_bounds-choose_set-end-4 : goal.slice_bounds-choose_set-end-4
-slice_bounds-choose_set-end-4 c = search (part_levels, ready_read, rules)
-
-pub enter_chosen-requires : goal.enter_chosen-requires
-enter_chosen-requires c = (search rules, search rules, search rules, search (block_countable, rules))
-
-pub returns : goal.returns
-returns c = search (block_is, c.requires.0, c.requires.1, rules)
+pub returns-clause-blocked : goal.returns-clause-blocked
+returns-clause-blocked c =
+    let part = ap₂ blockers_in c.held-blockers.ensures.masks c.held-blockers.ensures.levels in
+    block_is _ c.requires.0 (terms_given c.args.given.now) _ _ _ part (rw c.from.ensures at c.choose_set-choice.ensures) c.enter_chosen.ensures.entered

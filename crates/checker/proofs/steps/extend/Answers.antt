@@ -1,12 +1,9 @@
-use Rattle.checker.proofs.Working.{extend_finds, extend_pends, extend_room}
-use borrow.Author.Rules.{rules}
+use Rattle.checker.proofs.Working.{extend_finds, extend_pends}
+use Rattle.std.proofs.Common.{rules}
 use Rattle.checker.proofs.steps.extend.Goals as goal
 
-pub returns-then-subset : goal.returns-then-subset
-returns-then-subset c = search (extend_finds, rules)
+pub returns-then-subset-clause-extended : goal.returns-then-subset-clause-extended
+returns-then-subset-clause-extended c = search (extend_finds, rules)
 
-pub pend_more-requires : goal.pend_more-requires
-pend_more-requires c = (search (extend_room, rules), search rules)
-
-pub returns : goal.returns
-returns c = search (extend_pends, rules)
+pub returns-clause-extended : goal.returns-clause-extended
+returns-clause-extended c = search (extend_pends, rules)

@@ -1,28 +1,21 @@
-use Rattle.blockers.proofs.Parts.{part_masks, part_levels, part_paired}
-use Rattle.checker.proofs.Stages.{ready_read, ready_word}
-use Rattle.checker.proofs.Working.{below_small, work_blocks, pend_room, work_extends}
-use borrow.Author.Rules.{rules}
+use mathlib.Core.Path.{ap₂}
+use Rattle.machine.specs.Lent.{blockers_in}
+use Rattle.checker.specs.Stage.{terms_given}
+use Rattle.checker.proofs.Stages.{ready_word}
+use Rattle.checker.proofs.Working.{work_blocks, pend_room, work_extends}
 use Rattle.checker.proofs.steps.work.Goals as goal
 
-pub slice_bounds-first_symbol-end-2 : goal.slice_bounds-first_symbol-end-2
-slice_bounds-first_symbol-end-2 c = search (part_masks, ready_read, rules)
-
-pub slice_bounds-first_symbol-end-4 : goal.slice_bounds-first_symbol-end-4
-slice_bounds-first_symbol-end-4 c = search (part_levels, ready_read, rules)
-
-pub first_symbol-found-requires : goal.first_symbol-found-requires
-first_symbol-found-requires c = search (part_paired, ready_read, rules)
-
-pub block-requires : goal.block-requires
-block-requires c = (search rules, search rules, search rules, search (below_small, rules), search rules)
-
-pub returns-in_default : goal.returns-in_default
-returns-in_default c =
-    search (work_blocks, c.requires.0, c.requires.1, c.requires.2, c.first_symbol-found.ensures, c.in_default.is, c.block.ensures)
+pub returns-in_default-clause-worked : goal.returns-in_default-clause-worked
+returns-in_default-clause-worked c =
+    let part = ap₂ blockers_in c.held-blockers.ensures.masks c.held-blockers.ensures.levels in
+    work_blocks _ c.requires.0 c.requires.1 (terms_given c.args.given.now) part c.first_symbol.ensures c.in_default.is c.block.ensures.blocked
 
 pub extend-requires : goal.extend-requires
-extend-requires c = (search (ready_word, rules), search rules, search rules, search (pend_room, rules))
+extend-requires c =
+    let part = ap₂ blockers_in c.held-blockers.ensures.masks c.held-blockers.ensures.levels in
+    (ready_word c.requires.0, c.requires.1, c.requires.2, pend_room _ c.requires.0 c.requires.1 (terms_given c.args.given.now) part c.first_symbol.ensures _ _ c.in-Some.is)
 
-pub returns : goal.returns
-returns c =
-    search (work_extends, c.requires.0, c.requires.1, c.requires.2, c.first_symbol-found.ensures, c.in-At.is, c.extend.ensures)
+pub returns-clause-worked : goal.returns-clause-worked
+returns-clause-worked c =
+    let part = ap₂ blockers_in c.held-blockers.ensures.masks c.held-blockers.ensures.levels in
+    work_extends _ c.requires.0 c.requires.1 (terms_given c.args.given.now) part c.first_symbol.ensures _ _ c.in-Some.is c.extend.ensures.extended

@@ -1,22 +1,14 @@
-use Rattle.checker.proofs.Stages.{ready_holds}
 use Rattle.checker.proofs.Stepping.{step_stops, step_works, step_closes, step_opens}
-use borrow.Author.Rules.{rules}
 use Rattle.checker.proofs.steps.working_step.Goals as goal
 
-pub returns-then-allowance-run : goal.returns-then-allowance-run
-returns-then-allowance-run c = search (step_stops, rules)
+pub returns-then-given-run-clause-stepped : goal.returns-then-given-run-clause-stepped
+returns-then-given-run-clause-stepped c = step_stops _ c.requires _ c.if-given-run.true c.stop.ensures.left
 
-pub work-requires : goal.work-requires
-work-requires c = (search rules, search rules, search rules, search rules)
+pub returns-then-run-gt0-clause-stepped : goal.returns-then-run-gt0-clause-stepped
+returns-then-run-gt0-clause-stepped c = step_works _ c.requires _ c.if-given-run.false c.work.ensures.worked
 
-pub returns-then-run-gt0 : goal.returns-then-run-gt0
-returns-then-run-gt0 c = search (step_works, c.requires.0, c.requires.1, c.if-allowance-run.false, c.work.ensures)
+pub returns-then-run-clause-stepped : goal.returns-then-run-clause-stepped
+returns-then-run-clause-stepped c = step_closes _ c.requires _ c.if-given-run.false c.if-run-gt0.false c.if-run.true c.close_level.ensures.closed
 
-pub close_level-requires : goal.close_level-requires
-close_level-requires c = (search rules, search (ready_holds, rules), search rules, search rules)
-
-pub returns-then-run : goal.returns-then-run
-returns-then-run c = search (step_closes, rules)
-
-pub returns : goal.returns
-returns c = search (step_opens, rules)
+pub returns-clause-stepped : goal.returns-clause-stepped
+returns-clause-stepped c = step_opens _ c.requires _ c.if-given-run.false c.if-run-gt0.false c.if-run.false c.open_level.ensures.opened

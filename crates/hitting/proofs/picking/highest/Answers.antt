@@ -1,12 +1,13 @@
-use Rattle.hitting.proofs.Planes.{narrowing_starts, narrowing_goes, narrowing_ends}
+use Rattle.std.proofs.iter.runs.Made.{chains}
+use Rattle.std.specs.List.{fold}
+use Rattle.std.specs.Prelude.{◌≡◌, reverse}
+use mathlib.Core.Path.{◌∙◌}
+use Rattle.hitting.specs.Sets.{narrowed}
+use Rattle.hitting.proofs.Planes.{highest_folded}
 use borrow.Author.Rules.{rules}
 use Rattle.hitting.proofs.picking.highest.Goals as goal
 
-pub loop-j-init : goal.loop-j-init
-loop-j-init c = search (narrowing_starts, rules)
-
-pub loop-j-preserved : goal.loop-j-preserved
-loop-j-preserved c = search (narrowing_goes, rules)
-
 pub returns : goal.returns
-returns c = search (narrowing_ends, rules)
+returns c =
+    let e : c.fold.result ≡ fold narrowed c.args.states (reverse c.args.planes.now) = search (rules, chains) in
+    e ∙ highest_folded c.args.states c.args.planes.now

@@ -1,9 +1,6 @@
-use Rattle.hitting.proofs.Picks.{unmet_starts, unmet_leaves, unmet_stays, unmet_ends}
+use Rattle.hitting.proofs.Picks.{unmet_leaves, unmet_stays, unmet_ends}
 use borrow.Author.Rules.{rules}
 use Rattle.hitting.proofs.picking.keep_unmet.Goals as goal
-
-pub loop-i-init : goal.loop-i-init
-loop-i-init c = search (unmet_starts, rules)
 
 pub loop-i-preserved-then-member : goal.loop-i-preserved-then-member
 loop-i-preserved-then-member c = search (unmet_leaves, rules)

@@ -1,15 +1,12 @@
 use borrow.Author.Rules.{rules}
-use Rattle.indexing.proofs.Listing.{rest_starts, rest_finds, rest_goes, rest_ends}
+use Rattle.indexing.proofs.Listing.{rest_finds, rest_goes, rest_ends}
 use Rattle.indexing.proofs.index.is_covered_from.Goals as goal
-
-pub loop-i-init : goal.loop-i-init
-loop-i-init c = search (rest_starts, rules)
 
 pub returns-then-covers_at : goal.returns-then-covers_at
 returns-then-covers_at c = search (rest_finds, rules)
 
-pub loop-i-preserved : goal.loop-i-preserved
-loop-i-preserved c = search (rest_goes, rules)
+pub loop-place-preserved : goal.loop-place-preserved
+loop-place-preserved c = search (rest_goes, rules)
 
 pub returns : goal.returns
 returns c = search (rest_ends, rules)

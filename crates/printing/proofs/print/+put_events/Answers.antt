@@ -1,6 +1,6 @@
 use borrow.Author.Rules.{rules}
 use Rattle.printing.proofs.SetsBehind.{first_part, last_part, first_shorter, last_shorter}
-use Rattle.printing.proofs.Lines.{word_put, halves_put}
+use Rattle.printing.proofs.Lines.{word_put, parts_put}
 use Rattle.printing.proofs.print.+put_events.Goals as goal
 
 pub returns-then-word-table : goal.returns-then-word-table
@@ -16,4 +16,4 @@ pub put_events-requires : goal.put_events-requires
 put_events-requires t c = (search (last_shorter, rules), (search (last_part, rules), search rules, search rules))
 
 pub returns : goal.returns
-returns t c = search (halves_put, rules)
+returns t c = search (parts_put, rules)

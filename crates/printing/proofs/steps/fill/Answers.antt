@@ -1,18 +1,12 @@
 use borrow.Author.Rules.{rules}
-use Rattle.printing.proofs.SetsBehind.{filling_starts, filling_place, filling_known, filling_next, filled_back, filled_table}
+use Rattle.printing.proofs.SetsBehind.{filling_starts, filling_known, filling_next}
 use Rattle.printing.proofs.steps.fill.Goals as goal
 
 pub loop-i-init : goal.loop-i-init
 loop-i-init c = search (filling_starts, rules)
-
-pub bounds-table-i : goal.bounds-table-i
-bounds-table-i c = search (filling_place, rules)
 
 pub backward-case-requires : goal.backward-case-requires
 backward-case-requires c = search (filling_known, rules)
 
 pub loop-i-preserved : goal.loop-i-preserved
 loop-i-preserved c = search (filling_next, rules)
-
-pub returns : goal.returns
-returns c = record { back = search (filled_back, rules); sets = search (filled_table, rules) }

@@ -1,19 +1,10 @@
 use borrow.Author.Rules.{rules}
 use Rattle.automata.proofs.WordTests.{symbol_known}
-use Rattle.printing.proofs.Stepping.{stepping_starts, stepping_place, stepping_next, stepped_last, stepped_table}
+use Rattle.printing.proofs.Stepping.{stepping_next, stepped_last, stepped_table}
 use Rattle.printing.proofs.steps.step_through.Goals as goal
-
-pub loop-i-init : goal.loop-i-init
-loop-i-init c = search (stepping_starts, rules)
-
-pub bounds-table-i : goal.bounds-table-i
-bounds-table-i c = search (stepping_place, rules)
 
 pub reached-next-requires : goal.reached-next-requires
 reached-next-requires c = search (symbol_known, rules)
-
-pub bounds-table-i-in-loop-i : goal.bounds-table-i-in-loop-i
-bounds-table-i-in-loop-i c = search (stepping_place, rules)
 
 pub loop-i-preserved : goal.loop-i-preserved
 loop-i-preserved c = search (stepping_next, rules)

@@ -1,0 +1,10 @@
+use Rattle.chains.proofs.Chains.{behind}
+use Rattle.firing.proofs.Fires.{Firing}
+use Rattle.firing.proofs.linking.RowChains.fire.Given as goal
+
+abbrev pub invariant-loop-number : goal.invariant-loop-number
+invariant-loop-number g l =
+    Firing l.image l.fn.q.0 l.y l.more l.self l.initial.sets l.sets l.number
+
+abbrev pub decreases-loop-number : goal.decreases-loop-number
+decreases-loop-number g l = behind l.number

@@ -1,8 +1,0 @@
-use Rattle.firing.proofs.Fires.{Firing}
-use Rattle.firing.proofs.sets.fire.Given as goal
-
-abbrev pub invariant-loop-number : goal.invariant-loop-number
-invariant-loop-number l = Firing l.image l.x l.state l.y l.more l.lasts l.links l.symbols l.initial.sets l.start l.sets l.number
-
-abbrev pub decreases-loop-number : goal.decreases-loop-number
-decreases-loop-number l = l.number

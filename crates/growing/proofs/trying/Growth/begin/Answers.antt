@@ -1,0 +1,18 @@
+use borrow.Author.Rules.{rules}
+use Rattle.growing.proofs.Begins.{first_starts, symbol_within, first_ends, first_told, first_goes}
+use Rattle.growing.proofs.trying.Growth.begin.Goals as goal
+
+pub loop-s-init : goal.loop-s-init
+loop-s-init c = search (first_starts, rules)
+
+pub bounds-lists-symbol : goal.bounds-lists-symbol
+bounds-lists-symbol c = search (symbol_within, rules)
+
+pub is_settled-requires : goal.is_settled-requires
+is_settled-requires c = search (first_told, rules)
+
+pub loop-s-preserved : goal.loop-s-preserved
+loop-s-preserved c = search (first_goes, rules)
+
+pub returns : goal.returns
+returns c = search (first_ends, rules)

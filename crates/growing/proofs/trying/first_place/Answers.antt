@@ -1,9 +1,0 @@
-use Rattle.growing.proofs.Begins.{place_bottom, place_above}
-use borrow.Author.Rules.{rules}
-use Rattle.growing.proofs.trying.first_place.Goals as goal
-
-pub returns-then-equals : goal.returns-then-equals
-returns-then-equals c = search (place_bottom, rules)
-
-pub returns : goal.returns
-returns c = search (place_above, rules)

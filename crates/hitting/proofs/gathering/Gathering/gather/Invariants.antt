@@ -1,0 +1,6 @@
+use Rattle.blockers.specs.Tables.{held_in}
+use Rattle.hitting.proofs.Gathers.{SymbolsGathered}
+use Rattle.hitting.proofs.gathering.Gathering.gather.Given as goal
+
+abbrev pub invariant-loop-s : goal.invariant-loop-s
+invariant-loop-s g l = SymbolsGathered l.image (held_in l.blockers) l.below.0 l.x l.s-end l.s l.self

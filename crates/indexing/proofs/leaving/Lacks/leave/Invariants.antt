@@ -1,0 +1,10 @@
+use Prim.Native.Nat.{◌-◌}
+use lib.ListN.{length}
+use Rattle.indexing.proofs.Leavers.{Leaving}
+use Rattle.indexing.proofs.leaving.Lacks.leave.Given as goal
+
+abbrev pub invariant-loop-i : goal.invariant-loop-i
+invariant-loop-i g l = Leaving l.mask l.level.0 (length l.self.masks.now) l.self.masks.now l.initial.levels l.from l.levels
+
+abbrev pub decreases-loop-i : goal.decreases-loop-i
+decreases-loop-i g l = length l.self.masks.now - l.from

@@ -1,9 +1,0 @@
-use Prim.Native.Nat.{◌-◌}
-use Rattle.indexing.proofs.Leavers.{Leaving}
-use Rattle.indexing.proofs.leaving.leave.Given as goal
-
-abbrev pub invariant-loop-i : goal.invariant-loop-i
-invariant-loop-i l = Leaving l.mask l.level.0 l.held l.masks l.initial.levels l.i l.levels
-
-abbrev pub decreases-loop-i : goal.decreases-loop-i
-decreases-loop-i l = l.held - l.i
