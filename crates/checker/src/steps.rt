@@ -20,6 +20,7 @@ use blockers::Level;
 use blockers::reasons::Blockers;
 use blockers::room::BlockerRoom;
 use choices::Choice;
+use passing::Pending;
 use wordroom::WordRoom;
 
 // The run ends without a verdict, by what it lacks: nothing stays pending.
@@ -169,15 +170,14 @@ fn block(
     ensures same_word { SameWord word.old word.new }
 {
     let blockers = room.held(run.held);
-    let choice = choices::choose_set(
-        image,
-        &blockers,
+    let pending = Pending {
+        // lent again, since the blockers are not lent for as long
+        image: &*image,
+        blockers: &blockers,
         below,
         x,
-        given.hints,
-        run.blocks,
-        u64::from(given.way),
-    );
+    };
+    let choice = choices::choose_set(&pending, given.hints, run.blocks, u64::from(given.way));
     enter_chosen(image, room, word, run, below, choice)
 }
 
@@ -200,7 +200,14 @@ fn work(
     // what is pending is no more than the level
     let below = Level(run.level.0 - run.pending as u32);
     let blockers = room.held(run.held);
-    let Some((symbol, case)) = choices::first_symbol(image, &blockers, below, x) else {
+    let pending = Pending {
+        // lent again, since the blockers are not lent for as long
+        image: &*image,
+        blockers: &blockers,
+        below,
+        x,
+    };
+    let Some((symbol, case)) = choices::first_symbol(&pending) else {
         return block(image, room, word, given, run, below, x);
     };
     extend(image, word, run, symbol, case)

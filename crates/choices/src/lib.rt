@@ -11,9 +11,10 @@ ghost use Rattle.blockers.specs.Tables.{held_in};
 ghost use Rattle.choices.specs.Found.{found_of, choice_of};
 
 use automata::backward::backward;
-use automata::image::{Image, Symbol};
+use automata::image::Symbol;
 use blockers::Level;
-use blockers::reasons::{Blockers, lowest_initial};
+use blockers::reasons::lowest_initial;
+use passing::Pending;
 
 // The set that is to enter, and whether it is a hint. There is a set in either case, so it is no Option.
 #[derive(Clone, Copy)]
@@ -23,31 +24,27 @@ pub struct Choice {
 }
 
 // The first symbol, from 0 upward, that can extend the pending case x, with its backward set.
-pub fn first_symbol(
-    image: &Image<'_>,
-    blockers: &Blockers<'_>,
-    below: Level,
-    x: u64,
-) -> Option<(Symbol, u64)>
-    requires { length blockers.now.masks.now ≡ length blockers.now.levels.now }
-    ensures { result ≡ found_of (system_of image.now) x
-        (first_from (qualifies (system_of image.now) (held_in blockers.now) below.0 x) (symbols_of image.now) 0) }
+pub fn first_symbol(pending: &Pending<'_>) -> Option<(Symbol, u64)>
+    requires { length pending.now.blockers.now.masks.now ≡ length pending.now.blockers.now.levels.now }
+    ensures { result ≡ found_of (system_of pending.now.image.now) pending.now.x
+        (first_from (qualifies (system_of pending.now.image.now) (held_in pending.now.blockers.now) pending.now.below.0 pending.now.x)
+        (symbols_of pending.now.image.now) 0) }
 {
-    let head = image.head();
+    let head = pending.image.head();
     'symbols: for s in 0..head.symbols {
         let symbol = Symbol(s);
-        let p = backward(image, symbol, x).set;
-        if masks::subset(p, x) {
+        let p = backward(pending.image, symbol, pending.x).set;
+        if masks::subset(p, pending.x) {
             continue 'symbols;
         }
-        if below == Level(0) {
+        if pending.below == Level(0) {
             if lowest_initial(head.initial, p).is_some() {
                 continue 'symbols;
             }
             return Some((symbol, p));
         }
-        for i in blockers.skip_first(below, p)..blockers.masks.len() {
-            if blockers.reason_at(i, below, p).is_some() {
+        for i in pending.blockers.skip_first(pending.below, p)..pending.blockers.masks.len() {
+            if pending.blockers.reason_at(i, pending.below, p).is_some() {
                 continue 'symbols;
             }
         }
@@ -57,36 +54,29 @@ pub fn first_symbol(
 }
 
 // The set that x grows to by the way: 0 by its states, else through a hitting set. The way stays a number, since `choose_set` answers for every one.
-fn grow(image: &Image<'_>, blockers: &Blockers<'_>, below: Level, x: u64, way: u64) -> u64
-    ensures { result ≡ growth_of way (system_of image.now) (rows_of image.now) (held_in blockers.now) below.0 x }
+fn grow(pending: &Pending<'_>, way: u64) -> u64
+    ensures { result ≡ growth_of way (system_of pending.now.image.now) (rows_of pending.now.image.now) (held_in pending.now.blockers.now)
+        pending.now.below.0 pending.now.x }
 {
     if way == 0 {
-        return growing::by_states(image, blockers, below, x);
+        return growing::by_states(pending);
     }
-    hitting::grow(image, blockers, below, x)
+    hitting::grow(pending)
 }
 
 // The set that blocks x after this many blocks: the hint of that number where it exists and passes, else what x grows to by the way.
-pub fn choose_set(
-    image: &Image<'_>,
-    blockers: &Blockers<'_>,
-    below: Level,
-    x: u64,
-    hints: &[u64],
-    blocks: u64,
-    way: u64,
-) -> Choice
-    ensures { choice_of result ≡ chosen_from (system_of image.now) (growth_of way (system_of image.now) (rows_of image.now))
-        (held_in blockers.now) below.0 x (hint_at hints.now blocks) }
+pub fn choose_set(pending: &Pending<'_>, hints: &[u64], blocks: u64, way: u64) -> Choice
+    ensures { choice_of result ≡ chosen_from (system_of pending.now.image.now) (growth_of way (system_of pending.now.image.now) (rows_of pending.now.image.now))
+        (held_in pending.now.blockers.now) pending.now.below.0 pending.now.x (hint_at hints.now blocks) }
 {
     // as Rust, std has no `From` between u64 and usize
     match hints.get(blocks as usize) {
-        Some(&hint) if passing::passes(image, blockers, below, x, hint) => Choice {
+        Some(&hint) if passing::passes(pending, hint) => Choice {
             mask: hint,
             hinted: true,
         },
         _ => Choice {
-            mask: grow(image, blockers, below, x, way),
+            mask: grow(pending, way),
             hinted: false,
         },
     }

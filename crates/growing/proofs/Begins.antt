@@ -23,9 +23,9 @@ use Rattle.automata.proofs.Reading.{head_symbols, head_initial}
 use Rattle.machine.specs.Machine.{Blocker, covers, blocked}
 use Rattle.machine.specs.Machine as Machine
 use Rattle.blockers.specs.Tables.{held_in}
+use Rattle.passing.specs.declared.Pending.{Pending}
 use Rattle.covering.specs.Listed.{one_holds, part, UpTo, in_order, nowhere, Listed, Tells}
 use Rattle.covering.proofs.Covering.{part_kept, up_to_further}
-use Rattle.growing.specs.declared.trying.Growth.{Growth}
 use Rattle.growing.specs.declared.trying.Grown.{Grown}
 use Rattle.growing.specs.declared.trying.Lists.{Lists}
 use Rattle.growing.specs.Near.{list_of}
@@ -60,23 +60,23 @@ up_to_same None = nowhere
 up_to_same (Some place) = in_order (omega arith)
 
 -- the first sets and lists, before symbol s
-pub record FirstSets (growth : Growth) (bound s : ℕ) (grown : Grown) (lists : Lists) : Type 0 where
-  pub all : bound ≡ symbols_of growth.image.now
-  pub room : SymbolRoom growth.image.now grown lists
-  pub begun : grown.set ≡ growth.x
-  pub bottom : growth.below.0 ≡ 0 → get_or lists.ends s None ≡ None
+pub record FirstSets (pending : Pending) (bound s : ℕ) (grown : Grown) (lists : Lists) : Type 0 where
+  pub all : bound ≡ symbols_of pending.image.now
+  pub room : SymbolRoom pending.image.now grown lists
+  pub begun : grown.set ≡ pending.x
+  pub bottom : pending.below.0 ≡ 0 → get_or lists.ends s None ≡ None
   pub ahead : (t : ℕ) → t ≤ s → UpTo (get_or lists.ends t None) (get_or lists.ends s None)
-  pub are : (t : ℕ) → t < s → get_or grown.sets t 0 ≡ backward (rows_of growth.image.now t) growth.x
-  pub tells : (t : ℕ) → t < s → (case : ℕ) → T (subset (backward (rows_of growth.image.now t) growth.x) case)
-      → Tells (initial_of growth.image.now) (held_in growth.blockers.now) growth.below.0 (list_of lists.near lists.ends t) case
+  pub are : (t : ℕ) → t < s → get_or grown.sets t 0 ≡ backward (rows_of pending.image.now t) pending.x
+  pub tells : (t : ℕ) → t < s → (case : ℕ) → T (subset (backward (rows_of pending.image.now t) pending.x) case)
+      → Tells (initial_of pending.image.now) (held_in pending.blockers.now) pending.below.0 (list_of lists.near lists.ends t) case
   pub settled : (t : ℕ) → t < s
-      → T (Machine.settled (initial_of growth.image.now) (held_in growth.blockers.now) growth.below.0 growth.x (backward (rows_of growth.image.now t) growth.x))
+      → T (Machine.settled (initial_of pending.image.now) (held_in pending.blockers.now) pending.below.0 pending.x (backward (rows_of pending.image.now t) pending.x))
 
-pub first_starts : {growth : Growth} {head : Head} {grown : Grown} {near : List ℕ} (ends : List (Option ℕ)) → ReadAs growth.image.now head
-    → grown.set ≡ growth.x → length grown.sets ≡ 64 → length grown.next ≡ 64 → length ends ≡ 65 → (first : Option ℕ) → (growth.below.0 ≡ 0 → first ≡ None)
-    → FirstSets growth head.symbols 0 grown (record { near = near; ends = set ends 0 first })
-first_starts {growth} ends read begun sets_long next_long ends_long first bottom =
-    let few = (valid_kept growth.image.now read.valid).symbols_fit in
+pub first_starts : {pending : Pending} {head : Head} {grown : Grown} {near : List ℕ} (ends : List (Option ℕ)) → ReadAs pending.image.now head
+    → grown.set ≡ pending.x → length grown.sets ≡ 64 → length grown.next ≡ 64 → length ends ≡ 65 → (first : Option ℕ) → (pending.below.0 ≡ 0 → first ≡ None)
+    → FirstSets pending head.symbols 0 grown (record { near = near; ends = set ends 0 first })
+first_starts {pending} ends read begun sets_long next_long ends_long first bottom =
+    let few = (valid_kept pending.image.now read.valid).symbols_fit in
     let zeroth : get_or (set ends 0 first) 0 None ≡ first = get_or-set_same ends 0 first None (omega arith) in
     record {
       all = head_symbols read;
@@ -93,18 +93,18 @@ first_starts {growth} ends read begun sets_long next_long ends_long first bottom
       settled = λ t l. absurd (omega arith);
     }
 
-module _ {growth : Growth} {bound s : ℕ} {grown : Grown} {lists : Lists} (so_far : FirstSets growth bound s grown lists) where
+module _ {pending : Pending} {bound s : ℕ} {grown : Grown} {lists : Lists} (so_far : FirstSets pending bound s grown lists) where
   abbrev image : List ℕ
-  image = growth.image.now
+  image = pending.image.now
 
   abbrev table : List Blocker
-  table = held_in growth.blockers.now
+  table = held_in pending.blockers.now
 
-  pub first_ends : bound ≤ s → T (within (states_of image) growth.x) → Growing growth 0 grown lists
+  pub first_ends : bound ≤ s → T (within (states_of image) pending.x) → Growing pending 0 grown lists
   first_ends l fits =
       record {
         states = record {
-          inside = rw so_far.begun (subset_reflexive growth.x);
+          inside = rw so_far.begun (subset_reflexive pending.x);
           above = λ p k m. subst (Member p) so_far.begun m;
         };
         fits = rw so_far.begun fits;
@@ -118,13 +118,13 @@ module _ {growth : Growth} {bound s : ℕ} {grown : Grown} {lists : Lists} (so_f
       }
 
   -- one symbol more
-  module _ (P place : ℕ) (is_place : place ≡ s) (near' : List ℕ) (end' : Option ℕ) (back : P ≡ backward (rows_of image s) growth.x)
-      (listed : Listed table growth.below.0 P lists.near near' (get_or lists.ends place None) end') (long : length near' ≡ length lists.near) where
+  module _ (P place : ℕ) (is_place : place ≡ s) (near' : List ℕ) (end' : Option ℕ) (back : P ≡ backward (rows_of image s) pending.x)
+      (listed : Listed table pending.below.0 P lists.near near' (get_or lists.ends place None) end') (long : length near' ≡ length lists.near) where
     ends' : List (Option ℕ)
     ends' = set lists.ends (place + 1) end'
 
-    listed_here : Listed table growth.below.0 P lists.near near' (get_or lists.ends s None) end'
-    listed_here = subst (λ (x : ℕ). Listed table growth.below.0 P lists.near near' (get_or lists.ends x None) end') is_place listed
+    listed_here : Listed table pending.below.0 P lists.near near' (get_or lists.ends s None) end'
+    listed_here = subst (λ (x : ℕ). Listed table pending.below.0 P lists.near near' (get_or lists.ends x None) end') is_place listed
 
     own_end : s < bound → (k : ℕ) → k ≡ s + 1 → get_or ends' k None ≡ end'
     unfolding ends'
@@ -140,19 +140,19 @@ module _ {growth : Growth} {bound s : ℕ} {grown : Grown} {lists : Lists} (so_f
     own_list l near t q = rw (q, other_end s (omega arith), own_end l (suc s) (omega arith)) refl
 
     here_tells : (case : ℕ) → T (subset P case) → (list : List ℕ) → part near' (get_or lists.ends s None) end' ≡ Some list
-        → one_holds list case ≡ blocked (initial_of image) table growth.below.0 case
+        → one_holds list case ≡ blocked (initial_of image) table pending.below.0 case
     here_tells case larger list is =
         listed_here.holds list is case larger
-        ∙ blocked_above (initial_of image) table growth.below.0 case (λ z. no_list near' _ end' list (so_far.bottom z) is)
+        ∙ blocked_above (initial_of image) table pending.below.0 case (λ z. no_list near' _ end' list (so_far.bottom z) is)
 
     pub first_told : {head : Head} → ReadAs image head → s < bound → (listed : Option (List ℕ)) → listed ≡ list_of near' (set lists.ends (place + 1) end') place
-        → (list : List ℕ) → listed ≡ Some list → one_holds list P ≡ blocked head.initial table growth.below.0 P
+        → (list : List ℕ) → listed ≡ Some list → one_holds list P ≡ blocked head.initial table pending.below.0 P
     unfolding ends'
     first_told read l listed is list one =
         rw (head_initial read) (here_tells P (subset_reflexive P) list (sym (own_list l near' place is_place) ∙ sym is ∙ one))
 
-    pub first_goes : {head : Head} (b : Bool) → ReadAs image head → s < bound → b ≡ Machine.settled head.initial table growth.below.0 growth.x P → not b ≡ false
-        → FirstSets growth bound (s + 1) (record { set = grown.set; sets = set grown.sets place P; next = grown.next })
+    pub first_goes : {head : Head} (b : Bool) → ReadAs image head → s < bound → b ≡ Machine.settled head.initial table pending.below.0 pending.x P → not b ≡ false
+        → FirstSets pending bound (s + 1) (record { set = grown.set; sets = set grown.sets place P; next = grown.next })
         (record { near = near'; ends = set lists.ends (place + 1) end' })
     unfolding ends'
     first_goes {head} b read l test n =
@@ -178,26 +178,26 @@ module _ {growth : Growth} {bound s : ℕ} {grown : Grown} {lists : Lists} (so_f
         ahead t k (yes q) = rw q (up_to_same _)
         ahead t k (no q) = rw (own_end l (s + 1) refl) (up_to_further (before t (omega arith)) listed_here.low)
 
-        are : (t : ℕ) → t < s + 1 → Dec (t ≡ s) → get_or (set grown.sets place P) t 0 ≡ backward (rows_of image t) growth.x
+        are : (t : ℕ) → t < s + 1 → Dec (t ≡ s) → get_or (set grown.sets place P) t 0 ≡ backward (rows_of image t) pending.x
         are t k (yes q) =
             let e : t ≡ place = omega arith in
             rw e (get_or-set_same grown.sets place P 0 (omega (arith, so_far.all, so_far.room.sets_fit)))
             ∙ back
-            ∙ ap (λ (x : ℕ). backward (rows_of image x) growth.x) (sym q)
+            ∙ ap (λ (x : ℕ). backward (rows_of image x) pending.x) (sym q)
         are t k (no q) = get_or-set_other grown.sets place t P 0 (λ z. q (z ∙ is_place)) ∙ so_far.are t (omega arith)
 
         is_settled : (t : ℕ) → t < s + 1 → Dec (t ≡ s)
-            → T (Machine.settled (initial_of image) table growth.below.0 growth.x (backward (rows_of image t) growth.x))
+            → T (Machine.settled (initial_of image) table pending.below.0 pending.x (backward (rows_of image t) pending.x))
         is_settled t k (yes q) =
-            subst (λ (x : ℕ). T (Machine.settled (initial_of image) table growth.below.0 growth.x (backward (rows_of image x) growth.x))) (sym q)
-            (subst (λ (x : ℕ). T (Machine.settled (initial_of image) table growth.below.0 growth.x x)) back
-            (subst (λ (I : ℕ). T (Machine.settled I table growth.below.0 growth.x P)) (head_initial read) (holds (sym test ∙ not-false b n))))
+            subst (λ (x : ℕ). T (Machine.settled (initial_of image) table pending.below.0 pending.x (backward (rows_of image x) pending.x))) (sym q)
+            (subst (λ (x : ℕ). T (Machine.settled (initial_of image) table pending.below.0 pending.x x)) back
+            (subst (λ (I : ℕ). T (Machine.settled I table pending.below.0 pending.x P)) (head_initial read) (holds (sym test ∙ not-false b n))))
         is_settled t k (no q) = so_far.settled t (omega arith)
 
-        tells : (t : ℕ) → t < s + 1 → Dec (t ≡ s) → (case : ℕ) → T (subset (backward (rows_of image t) growth.x) case)
-            → Tells (initial_of image) table growth.below.0 (list_of near' ends' t) case
+        tells : (t : ℕ) → t < s + 1 → Dec (t ≡ s) → (case : ℕ) → T (subset (backward (rows_of image t) pending.x) case)
+            → Tells (initial_of image) table pending.below.0 (list_of near' ends' t) case
         tells t k (yes q) case larger list is =
-            here_tells case (subst (λ (x : ℕ). T (subset x case)) (ap (λ (x : ℕ). backward (rows_of image x) growth.x) q ∙ sym back) larger) list
+            here_tells case (subst (λ (x : ℕ). T (subset x case)) (ap (λ (x : ℕ). backward (rows_of image x) pending.x) q ∙ sym back) larger) list
             (sym (own_list l near' t q) ∙ is)
         tells t k (no q) case larger list is =
             so_far.tells t (omega arith) case larger list

@@ -22,10 +22,10 @@ use Rattle.automata.proofs.EachSymbol.{EachTried, each_goes}
 use Rattle.machine.specs.Machine.{Blocker, blocked}
 use Rattle.machine.specs.Machine as Machine
 use Rattle.blockers.specs.Tables.{held_in}
+use Rattle.passing.specs.declared.Pending.{Pending}
 use Rattle.passing.specs.Grown.{all_settled}
 use Rattle.passing.proofs.Passing.{all_fails}
 use Rattle.covering.specs.Listed.{one_holds}
-use Rattle.growing.specs.declared.trying.Growth.{Growth}
 use Rattle.growing.specs.declared.trying.Grown.{Grown}
 use Rattle.growing.specs.declared.trying.Lists.{Lists}
 use Rattle.growing.specs.Near.{list_of}
@@ -41,13 +41,13 @@ settled_larger initial table below Y more P larger t = from (or_cases (subset P 
     from (inl i) = or_left (subset P more) (blocked initial table below P) (subset_transitive P Y more i larger)
     from (inr b) = or_right (subset P more) (blocked initial table below P) b
 
-module _ {growth : Growth} {grown : Grown} {more : ℕ} {lists : Lists} {head : Head} (read : ReadAs growth.image.now head)
-    (settling : Settling growth grown more lists) {s : ℕ} (l : s < head.symbols) (place : ℕ) (e : place ≡ s) where
+module _ {pending : Pending} {grown : Grown} {more : ℕ} {lists : Lists} {head : Head} (read : ReadAs pending.image.now head)
+    (settling : Settling pending grown more lists) {s : ℕ} (l : s < head.symbols) (place : ℕ) (e : place ≡ s) where
   abbrev image : List ℕ
-  image = growth.image.now
+  image = pending.image.now
 
   abbrev table : List Blocker
-  table = held_in growth.blockers.now
+  table = held_in pending.blockers.now
 
   known : place < symbols_of image
   known = omega (arith, head_symbols read)
@@ -56,24 +56,24 @@ module _ {growth : Growth} {grown : Grown} {more : ℕ} {lists : Lists} {head : 
   settle_back = settling.are.are place known ∙ ap (λ (x : ℕ). backward (rows_of image x) more) e
 
   pub settle_told : (listed : Option (List ℕ)) → listed ≡ list_of lists.near lists.ends place → (list : List ℕ) → listed ≡ Some list
-      → one_holds list (get_or grown.next place 0) ≡ blocked head.initial table growth.below.0 (get_or grown.next place 0)
+      → one_holds list (get_or grown.next place 0) ≡ blocked head.initial table pending.below.0 (get_or grown.next place 0)
   settle_told listed is list one =
       rw (settling.are.are place known, head_initial read)
       (settling.near.tells place known (backward (rows_of image place) more)
-      (backward_monotone (rows_of image place) growth.x more (subset_transitive growth.x grown.set more settling.inside settling.larger)) list (sym is ∙ one))
+      (backward_monotone (rows_of image place) pending.x more (subset_transitive pending.x grown.set more settling.inside settling.larger)) list (sym is ∙ one))
 
   pub settle_same : get_or grown.next place 0 ≡ get_or grown.sets place 0
-      → true ≡ Machine.settled head.initial table growth.below.0 more (get_or grown.next place 0)
+      → true ≡ Machine.settled head.initial table pending.below.0 more (get_or grown.next place 0)
   settle_same same =
       let was : get_or grown.next place 0 ≡ backward (rows_of image place) grown.set = same ∙ settling.were.are place known in
       rw (was, head_initial read)
-      (sym (is_true _ (settled_larger (initial_of image) table growth.below.0 grown.set more (backward (rows_of image place) grown.set) settling.larger
+      (sym (is_true _ (settled_larger (initial_of image) table pending.below.0 grown.set more (backward (rows_of image place) grown.set) settling.larger
       (settling.settled.each place known))))
 
-  module _ (tried : EachTried image (Machine.settled head.initial table growth.below.0 more) more head.symbols s) (b : Bool)
-      (test : b ≡ Machine.settled head.initial table growth.below.0 more (get_or grown.next place 0)) where
-    pub settle_goes : not b ≡ false → EachTried image (Machine.settled head.initial table growth.below.0 more) more head.symbols (s + 1)
+  module _ (tried : EachTried image (Machine.settled head.initial table pending.below.0 more) more head.symbols s) (b : Bool)
+      (test : b ≡ Machine.settled head.initial table pending.below.0 more (get_or grown.next place 0)) where
+    pub settle_goes : not b ≡ false → EachTried image (Machine.settled head.initial table pending.below.0 more) more head.symbols (s + 1)
     settle_goes n = each_goes tried (get_or grown.next place 0) b l settle_back test n
 
-    pub settle_fails : not b ≡ true → false ≡ all_settled image table growth.below.0 more
-    settle_fails n = all_fails table growth.below.0 read tried (get_or grown.next place 0) b l settle_back test n
+    pub settle_fails : not b ≡ true → false ≡ all_settled image table pending.below.0 more
+    settle_fails n = all_fails table pending.below.0 read tried (get_or grown.next place 0) b l settle_back test n

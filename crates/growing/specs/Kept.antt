@@ -5,8 +5,8 @@ use Rattle.automata.specs.Image.{states_of, symbols_of, initial_of, rows_of}
 use Rattle.automata.specs.Automaton.{backward}
 use Rattle.machine.specs.Machine.{Blocker, settled}
 use Rattle.blockers.specs.Tables.{held_in}
+use Rattle.passing.specs.declared.Pending.{Pending}
 use Rattle.firing.specs.Sets.{SetsOf, Below}
-use Rattle.growing.specs.declared.trying.Growth.{Growth}
 use Rattle.growing.specs.declared.trying.Grown.{Grown}
 use Rattle.growing.specs.declared.trying.Lists.{Lists}
 use Rattle.growing.specs.Near.{Near}
@@ -22,13 +22,13 @@ pub record SymbolRoom (image : List ℕ) (grown : Grown) (lists : Lists) : Type 
   pub ends_fit : suc (symbols_of image) ≤ length lists.ends
 
 -- what is known of the set, which has grown by states below q, and of the tables
-pub record Growing (growth : Growth) (q : ℕ) (grown : Grown) (lists : Lists) : Type 0 where
-  pub states : Below growth.x q grown.set
-  pub fits : T (within (states_of growth.image.now) grown.set)
-  pub room : SymbolRoom growth.image.now grown lists
-  pub are : SetsOf growth.image.now grown.set grown.sets
-  pub near : Near growth.image.now (held_in growth.blockers.now) growth.below.0 growth.x lists.near lists.ends
-  pub settled : AllSettled growth.image.now (held_in growth.blockers.now) growth.below.0 grown.set
+pub record Growing (pending : Pending) (q : ℕ) (grown : Grown) (lists : Lists) : Type 0 where
+  pub states : Below pending.x q grown.set
+  pub fits : T (within (states_of pending.image.now) grown.set)
+  pub room : SymbolRoom pending.image.now grown lists
+  pub are : SetsOf pending.image.now grown.set grown.sets
+  pub near : Near pending.image.now (held_in pending.blockers.now) pending.below.0 pending.x lists.near lists.ends
+  pub settled : AllSettled pending.image.now (held_in pending.blockers.now) pending.below.0 grown.set
 
 -- the first `count` places are the same
 pub record Copied (count : ℕ) (from to : List ℕ) : Type 0 where
@@ -42,11 +42,11 @@ pub record Same (before grown : Grown) : Type 0 where
   pub next_long : length grown.next ≡ length before.next
 
 -- the sets of the set so far, which are settled, and those of a larger set
-pub record Settling (growth : Growth) (grown : Grown) (more : ℕ) (lists : Lists) : Type 0 where
-  pub inside : T (subset growth.x grown.set)
+pub record Settling (pending : Pending) (grown : Grown) (more : ℕ) (lists : Lists) : Type 0 where
+  pub inside : T (subset pending.x grown.set)
   pub larger : T (subset grown.set more)
-  pub room : SymbolRoom growth.image.now grown lists
-  pub were : SetsOf growth.image.now grown.set grown.sets
-  pub are : SetsOf growth.image.now more grown.next
-  pub near : Near growth.image.now (held_in growth.blockers.now) growth.below.0 growth.x lists.near lists.ends
-  pub settled : AllSettled growth.image.now (held_in growth.blockers.now) growth.below.0 grown.set
+  pub room : SymbolRoom pending.image.now grown lists
+  pub were : SetsOf pending.image.now grown.set grown.sets
+  pub are : SetsOf pending.image.now more grown.next
+  pub near : Near pending.image.now (held_in pending.blockers.now) pending.below.0 pending.x lists.near lists.ends
+  pub settled : AllSettled pending.image.now (held_in pending.blockers.now) pending.below.0 grown.set

@@ -9,12 +9,10 @@ ghost use Rattle.machine.specs.Machine.{by_states};
 ghost use Rattle.machine.specs.Runs.{system_of};
 ghost use Rattle.blockers.specs.Tables.{held_in};
 
-use crate::trying::Growth;
-use automata::image::{Head, Image};
-use blockers::Level;
-use blockers::reasons::Blockers;
+use crate::trying::by_tables;
+use automata::image::Head;
 use blockers::sizes::{FEW_STATES, MANY_BLOCKERS, MANY_ROWS, SOME_BLOCKERS};
-use passing::by_each;
+use passing::{Pending, by_each};
 
 // Whether there are so few blockers and rows that tables do not pay: they are filled for each symbol, and used for each state.
 fn is_small(head: Head, blockers: usize) -> bool {
@@ -26,21 +24,15 @@ fn is_small(head: Head, blockers: usize) -> bool {
 }
 
 // The set that x grows to by its states, as what blocks it one level above `below`. No set with a bit at n or above passes.
-pub fn by_states(image: &Image<'_>, blockers: &Blockers<'_>, below: Level, x: u64) -> u64
-    ensures { result ≡ by_states (system_of image.now) (held_in blockers.now) below.0 x }
+pub fn by_states(pending: &Pending<'_>) -> u64
+    ensures { result ≡ by_states (system_of pending.now.image.now) (held_in pending.now.blockers.now) pending.now.below.0 pending.now.x }
 {
-    let head = image.head();
-    if !masks::within(head.states, x) {
-        return x;
+    let head = pending.image.head();
+    if !masks::within(head.states, pending.x) {
+        return pending.x;
     }
-    if is_small(head, blockers.count()) {
-        return by_each(image, blockers, below, x);
+    if is_small(head, pending.blockers.count()) {
+        return by_each(pending);
     }
-    let growth = Growth {
-        image,
-        blockers,
-        below,
-        x,
-    };
-    growth.by_tables()
+    by_tables(pending)
 }

@@ -12,23 +12,13 @@ ghost use Rattle.growing.specs.Near.{list_of};
 ghost use Rattle.growing.specs.Kept.{Growing, Copied, Same, Settling};
 
 use automata::backward::backward;
-use automata::image::{Image, Symbol};
+use automata::image::Symbol;
 use blockers::Level;
-use blockers::reasons::Blockers;
 use blockers::sizes::{LISTED_COVERS, SHORT_ROWS, SHORT_TABLE};
 use covering::{is_settled, list_on, listed, settled_anew};
 use firing::linking::RowChains;
 use masks::State;
-use passing::by_each;
-
-// The set x that is to grow, as what blocks it one level above `below`.
-#[derive(Clone, Copy)]
-pub(crate) struct Growth<'a> {
-    pub image: &'a Image<'a>,
-    pub blockers: &'a Blockers<'a>,
-    pub below: Level,
-    pub x: u64,
-}
+use passing::{Pending, by_each};
 
 // The set so far with its backward sets by symbol, and room for those of the set that is tried next.
 #[derive(Drop)]
@@ -73,145 +63,143 @@ impl Lists {
     }
 }
 
-impl Growth<'_> {
-    // The backward sets of x and the lists of what covers them; or that some set is not settled.
-    fn begin(&self, grown: &mut Grown, lists: &mut Lists) -> bool
-        requires { (grown.old.set ≡ self.now.x) × T (within (states_of self.now.image.now) self.now.x) }
-        ensures { result ≡ true → Growing self.now 0 grown.new lists.new }
-    {
-        let head = self.image.head();
-        lists.ends[0] = first_place(self.below);
-        for s in 0..head.symbols {
-            let symbol = usize::from(s);
-            let p = backward(self.image, Symbol(s), self.x).set;
-            lists.ends[symbol + 1] = list_on(
-                self.blockers,
-                self.below,
-                p,
-                &mut lists.near,
-                lists.ends[symbol],
-            );
-            if !is_settled(
-                head.initial,
-                self.blockers,
-                self.below,
-                self.x,
-                p,
-                lists.of(symbol),
-            ) {
-                return false;
-            }
-            grown.sets[symbol] = p;
-        }
-        true
-    }
-
-    // Whether each backward set of `more` is inside it or blocked below. Those that the set so far has too are settled.
-    fn all_settled(&self, lists: &Lists, grown: &Grown, more: u64) -> bool
-        requires { Settling self.now grown.now more lists.now }
-        ensures { result ≡ all_settled self.now.image.now (held_in self.now.blockers.now) self.now.below.0 more }
-    {
-        let head = self.image.head();
-        for s in 0..head.symbols {
-            let symbol = usize::from(s);
-            let p = grown.next[symbol];
-            let was = grown.sets[symbol];
-            if !settled_anew(
-                head.initial,
-                self.blockers,
-                self.below,
-                more,
-                p,
-                was,
-                lists.of(symbol),
-            ) {
-                return false;
-            }
-        }
-        true
-    }
-
-    // Whether the set with state q passes; its backward sets are then in `next`.
-    fn keeps<const N: usize>(
-        &self,
-        rows: &RowChains<N>,
-        lists: &Lists,
-        q: State,
-        grown: &mut Grown,
-    ) -> bool
-        requires { Trying self.now.image.now q.0 grown.old.set rows.now × Growing self.now q.0 grown.old lists.now }
-        ensures passes { result
-            ≡ passes (system_of self.now.image.now) (held_in self.now.blockers.now) self.now.below.0 self.now.x (union grown.old.set (single q.0)) }
-        ensures sets { result ≡ true → SetsOf self.now.image.now (union grown.old.set (single q.0)) grown.new.next }
-        ensures same { Same grown.old grown.new }
-    {
-        let head = self.image.head();
-        let more = masks::insert(q, grown.set);
-        if masks::subset(head.initial, more) {
+// The backward sets of x and the lists of what covers them; or that some set is not settled.
+fn begin(pending: &Pending<'_>, grown: &mut Grown, lists: &mut Lists) -> bool
+    requires { (grown.old.set ≡ pending.now.x) × T (within (states_of pending.now.image.now) pending.now.x) }
+    ensures { result ≡ true → Growing pending.now 0 grown.new lists.new }
+{
+    let head = pending.image.head();
+    lists.ends[0] = first_place(pending.below);
+    for s in 0..head.symbols {
+        let symbol = usize::from(s);
+        let p = backward(pending.image, Symbol(s), pending.x).set;
+        lists.ends[symbol + 1] = list_on(
+            pending.blockers,
+            pending.below,
+            p,
+            &mut lists.near,
+            lists.ends[symbol],
+        );
+        if !is_settled(
+            head.initial,
+            pending.blockers,
+            pending.below,
+            pending.x,
+            p,
+            lists.of(symbol),
+        ) {
             return false;
         }
-        let symbols = usize::from(head.symbols);
-        copy(&grown.sets, &mut grown.next, symbols);
-        rows.fire(self.image, q, grown.set, &mut grown.next);
-        self.all_settled(lists, grown, more)
+        grown.sets[symbol] = p;
     }
+    true
+}
 
-    // The set takes state q in, if that is not in x and the set with it still passes.
-    fn try_state<const N: usize>(
-        &self,
-        rows: &RowChains<N>,
-        lists: &Lists,
-        q: State,
-        grown: &mut Grown,
-    )
-        requires { Linked self.now.image.now self.now.x (row_count_of self.now.image.now) rows.now × Growing self.now q.0 grown.old lists.now
-            × (q.0 < states_of self.now.image.now) }
-        ensures grows { Growing self.now (q.0 + 1) grown.new lists.now }
-        ensures set { grown.new.set
-            ≡ with_state (system_of self.now.image.now) (held_in self.now.blockers.now) self.now.below.0 self.now.x q.0 grown.old.set }
-    {
-        if masks::member(q, self.x) {
-            return;
-        }
-        if self.keeps(rows, lists, q, grown) {
-            let symbols = usize::from(self.image.head().symbols);
-            copy(&grown.next, &mut grown.sets, symbols);
-            grown.set = masks::insert(q, grown.set);
+// Whether each backward set of `more` is inside it or blocked below. Those that the set so far has too are settled.
+fn all_settled(pending: &Pending<'_>, lists: &Lists, grown: &Grown, more: u64) -> bool
+    requires { Settling pending.now grown.now more lists.now }
+    ensures { result ≡ all_settled pending.now.image.now (held_in pending.now.blockers.now) pending.now.below.0 more }
+{
+    let head = pending.image.head();
+    for s in 0..head.symbols {
+        let symbol = usize::from(s);
+        let p = grown.next[symbol];
+        let was = grown.sets[symbol];
+        if !settled_anew(
+            head.initial,
+            pending.blockers,
+            pending.below,
+            more,
+            p,
+            was,
+            lists.of(symbol),
+        ) {
+            return false;
         }
     }
+    true
+}
 
-    // The set that x grows to by its states, from the sets and lists of x, with chains for N rows.
-    fn by_chains<const N: usize>(&self, lists: &Lists, grown: &mut Grown) -> u64
-        requires { (row_count_of self.now.image.now ≤ N) × (N ≤ 4096) × Growing self.now 0 grown.old lists.now }
-        ensures { result ≡ by_states (system_of self.now.image.now) (held_in self.now.blockers.now) self.now.below.0 self.now.x }
-    {
-        let rows = RowChains::<N>::of(self.image, self.x);
-        for q in 0..self.image.head().states {
-            self.try_state(&rows, lists, State(q), grown);
-        }
-        grown.set
+// Whether the set with state q passes; its backward sets are then in `next`.
+fn keeps<const N: usize>(
+    pending: &Pending<'_>,
+    rows: &RowChains<N>,
+    lists: &Lists,
+    q: State,
+    grown: &mut Grown,
+) -> bool
+    requires { Trying pending.now.image.now q.0 grown.old.set rows.now × Growing pending.now q.0 grown.old lists.now }
+    ensures passes { result
+        ≡ passes (system_of pending.now.image.now) (held_in pending.now.blockers.now) pending.now.below.0 pending.now.x (union grown.old.set (single q.0)) }
+    ensures sets { result ≡ true → SetsOf pending.now.image.now (union grown.old.set (single q.0)) grown.new.next }
+    ensures same { Same grown.old grown.new }
+{
+    let head = pending.image.head();
+    let more = masks::insert(q, grown.set);
+    if masks::subset(head.initial, more) {
+        return false;
     }
+    let symbols = usize::from(head.symbols);
+    copy(&grown.sets, &mut grown.next, symbols);
+    rows.fire(pending.image, q, grown.set, &mut grown.next);
+    all_settled(pending, lists, grown, more)
+}
 
-    // The set that x grows to by its states. Where a set of x is not settled, each state is tried with all backward sets.
-    pub(crate) fn by_tables(&self) -> u64
-        requires { T (within (states_of self.now.image.now) self.now.x) }
-        ensures { result ≡ by_states (system_of self.now.image.now) (held_in self.now.blockers.now) self.now.below.0 self.now.x }
-    {
-        let mut grown = Grown {
-            set: self.x,
-            sets: [0; 64],
-            next: [0; 64],
-        };
-        let mut lists = Lists {
-            near: [0; LISTED_COVERS],
-            ends: [None; 65],
-        };
-        if !self.begin(&mut grown, &mut lists) {
-            return by_each(self.image, self.blockers, self.below, self.x);
-        }
-        if self.image.head().rows < SHORT_ROWS {
-            return self.by_chains::<SHORT_TABLE>(&lists, &mut grown);
-        }
-        self.by_chains::<4096>(&lists, &mut grown)
+// The set takes state q in, if that is not in x and the set with it still passes.
+fn try_state<const N: usize>(
+    pending: &Pending<'_>,
+    rows: &RowChains<N>,
+    lists: &Lists,
+    q: State,
+    grown: &mut Grown,
+)
+    requires { Linked pending.now.image.now pending.now.x (row_count_of pending.now.image.now) rows.now × Growing pending.now q.0 grown.old lists.now
+        × (q.0 < states_of pending.now.image.now) }
+    ensures grows { Growing pending.now (q.0 + 1) grown.new lists.now }
+    ensures set { grown.new.set
+        ≡ with_state (system_of pending.now.image.now) (held_in pending.now.blockers.now) pending.now.below.0 pending.now.x q.0 grown.old.set }
+{
+    if masks::member(q, pending.x) {
+        return;
     }
+    if keeps(pending, rows, lists, q, grown) {
+        let symbols = usize::from(pending.image.head().symbols);
+        copy(&grown.next, &mut grown.sets, symbols);
+        grown.set = masks::insert(q, grown.set);
+    }
+}
+
+// The set that x grows to by its states, from the sets and lists of x, with chains for N rows.
+fn by_chains<const N: usize>(pending: &Pending<'_>, lists: &Lists, grown: &mut Grown) -> u64
+    requires { (row_count_of pending.now.image.now ≤ N) × (N ≤ 4096) × Growing pending.now 0 grown.old lists.now }
+    ensures { result ≡ by_states (system_of pending.now.image.now) (held_in pending.now.blockers.now) pending.now.below.0 pending.now.x }
+{
+    let rows = RowChains::<N>::of(pending.image, pending.x);
+    for q in 0..pending.image.head().states {
+        try_state(pending, &rows, lists, State(q), grown);
+    }
+    grown.set
+}
+
+// The set that x grows to by its states. Where a set of x is not settled, each state is tried with all backward sets.
+pub(crate) fn by_tables(pending: &Pending<'_>) -> u64
+    requires { T (within (states_of pending.now.image.now) pending.now.x) }
+    ensures { result ≡ by_states (system_of pending.now.image.now) (held_in pending.now.blockers.now) pending.now.below.0 pending.now.x }
+{
+    let mut grown = Grown {
+        set: pending.x,
+        sets: [0; 64],
+        next: [0; 64],
+    };
+    let mut lists = Lists {
+        near: [0; LISTED_COVERS],
+        ends: [None; 65],
+    };
+    if !begin(pending, &mut grown, &mut lists) {
+        return by_each(pending);
+    }
+    if pending.image.head().rows < SHORT_ROWS {
+        return by_chains::<SHORT_TABLE>(pending, &lists, &mut grown);
+    }
+    by_chains::<4096>(pending, &lists, &mut grown)
 }

@@ -13,8 +13,8 @@ use crate::slots::{last_of, link};
 use automata::backward::backward;
 use automata::image::{Image, Symbol};
 use automata::rows::{Rows, rows_of};
-use blockers::Level;
-use blockers::reasons::{Blockers, Reason};
+use blockers::reasons::Reason;
+use passing::Pending;
 
 // The sets so far, in the first `count` places of a table, and the chains in which they stand by their slots.
 #[derive(Drop)]
@@ -91,53 +91,46 @@ impl<const SETS: usize, const SLOTS: usize> Gathering<SETS, SLOTS> {
     }
 
     // What is left of the cases of the symbol's rows whose state is outside its b.
-    fn add_symbol(
-        &mut self,
-        image: &Image<'_>,
-        blockers: &Blockers<'_>,
-        below: Level,
-        x: u64,
-        symbol: Symbol,
-    )
-        requires { (symbol.0 < symbols_of image.now)
-            × HasRoom self.old (with_symbol (system_of image.now) (rows_of image.now) (held_in blockers.now) below.0 x (held self.old) symbol.0) }
-        ensures { Filled (with_symbol (system_of image.now) (rows_of image.now) (held_in blockers.now) below.0 x (held self.old) symbol.0) self.new }
+    fn add_symbol(&mut self, pending: &Pending<'_>, symbol: Symbol)
+        requires { (symbol.0 < symbols_of pending.now.image.now)
+            × HasRoom self.old (with_symbol (system_of pending.now.image.now) (rows_of pending.now.image.now) (held_in pending.now.blockers.now)
+            pending.now.below.0 pending.now.x (held self.old) symbol.0) }
+        ensures { Filled (with_symbol (system_of pending.now.image.now) (rows_of pending.now.image.now) (held_in pending.now.blockers.now)
+            pending.now.below.0 pending.now.x (held self.old) symbol.0) self.new }
     {
-        let p = backward(image, symbol, x).set;
-        let b = cover(image, blockers, below, x, p);
-        self.add_rows(image, rows_of(image, symbol), b, x);
+        let p = backward(pending.image, symbol, pending.x).set;
+        let b = cover(pending, p);
+        self.add_rows(pending.image, rows_of(pending.image, symbol), b, pending.x);
     }
 
     // The sets that are to be met where x grows one level above `below`, where there are none yet.
-    pub(crate) fn gather(
-        &mut self,
-        image: &Image<'_>,
-        blockers: &Blockers<'_>,
-        below: Level,
-        x: u64,
-    )
-        requires { Filled [] self.old × (length (to_meet (system_of image.now) (rows_of image.now) (held_in blockers.now) below.0 x) ≤ SETS) }
-        ensures { Filled (to_meet (system_of image.now) (rows_of image.now) (held_in blockers.now) below.0 x) self.new }
+    pub(crate) fn gather(&mut self, pending: &Pending<'_>)
+        requires { Filled [] self.old
+            × (length (to_meet (system_of pending.now.image.now) (rows_of pending.now.image.now) (held_in pending.now.blockers.now)
+            pending.now.below.0 pending.now.x) ≤ SETS) }
+        ensures { Filled (to_meet (system_of pending.now.image.now) (rows_of pending.now.image.now) (held_in pending.now.blockers.now)
+            pending.now.below.0 pending.now.x) self.new }
     {
-        let head = image.head();
-        self.add(masks::without(head.initial, x));
+        let head = pending.image.head();
+        self.add(masks::without(head.initial, pending.x));
         for s in 0..head.symbols {
-            self.add_symbol(image, blockers, below, x, Symbol(s));
+            self.add_symbol(pending, Symbol(s));
         }
     }
 }
 
 // The set b of a symbol whose backward set of x is p.
-fn cover(image: &Image<'_>, blockers: &Blockers<'_>, below: Level, x: u64, p: u64) -> u64
-    ensures { result ≡ cover_set (states_of image.now) (initial_of image.now) (held_in blockers.now) below.0 x p }
+fn cover(pending: &Pending<'_>, p: u64) -> u64
+    ensures { result ≡ cover_set (states_of pending.now.image.now) (initial_of pending.now.image.now) (held_in pending.now.blockers.now)
+        pending.now.below.0 pending.now.x p }
 {
-    let head = image.head();
-    if masks::subset(p, x) {
-        return x;
+    let head = pending.image.head();
+    if masks::subset(p, pending.x) {
+        return pending.x;
     }
-    match blockers.why(head.initial, below, p) {
-        Some(Reason::ByBlocker(place, _)) => blockers.masks[place],
+    match pending.blockers.why(head.initial, pending.below, p) {
+        Some(Reason::ByBlocker(place, _)) => pending.blockers.masks[place],
         Some(Reason::ByStart(q)) => masks::without(masks::full(head.states), masks::insert(q, 0)),
-        None => x,
+        None => pending.x,
     }
 }

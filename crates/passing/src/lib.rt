@@ -15,6 +15,15 @@ use blockers::Level;
 use blockers::reasons::Blockers;
 use masks::State;
 
+// A pending case x, and what it takes to extend it or to block it one level above `below`.
+#[derive(Clone, Copy)]
+pub struct Pending<'a> {
+    pub image: &'a Image<'a>,
+    pub blockers: &'a Blockers<'a>,
+    pub below: Level,
+    pub x: u64,
+}
+
 // Whether p, a backward set of y, is inside y or blocked one level below.
 fn settled(initial: u64, blockers: &Blockers<'_>, below: Level, y: u64, p: u64) -> bool
     ensures { result ≡ is_settled initial (held_in blockers.now) below.0 y p }
@@ -23,13 +32,13 @@ fn settled(initial: u64, blockers: &Blockers<'_>, below: Level, y: u64, p: u64) 
 }
 
 // Whether each backward set of y is inside y or blocked one level below.
-fn all_settled(image: &Image<'_>, blockers: &Blockers<'_>, below: Level, y: u64) -> bool
-    ensures { result ≡ all_settled image.now (held_in blockers.now) below.0 y }
+fn all_settled(pending: &Pending<'_>, y: u64) -> bool
+    ensures { result ≡ all_settled pending.now.image.now (held_in pending.now.blockers.now) pending.now.below.0 y }
 {
-    let head = image.head();
+    let head = pending.image.head();
     for s in 0..head.symbols {
-        let p = backward(image, Symbol(s), y).set;
-        if !settled(head.initial, blockers, below, y, p) {
+        let p = backward(pending.image, Symbol(s), y).set;
+        if !settled(head.initial, pending.blockers, pending.below, y, p) {
             return false;
         }
     }
@@ -37,52 +46,45 @@ fn all_settled(image: &Image<'_>, blockers: &Blockers<'_>, below: Level, y: u64)
 }
 
 // Whether y passes: it may take the place of x as what blocks x one level above `below`.
-pub fn passes(image: &Image<'_>, blockers: &Blockers<'_>, below: Level, x: u64, y: u64) -> bool
-    ensures { result ≡ passes_test (system_of image.now) (held_in blockers.now) below.0 x y }
+pub fn passes(pending: &Pending<'_>, y: u64) -> bool
+    ensures { result ≡ passes_test (system_of pending.now.image.now) (held_in pending.now.blockers.now) pending.now.below.0 pending.now.x y }
 {
-    let head = image.head();
-    masks::subset(x, y)
+    let head = pending.image.head();
+    masks::subset(pending.x, y)
         && !masks::subset(head.initial, y)
         && masks::within(head.states, y)
-        && all_settled(image, blockers, below, y)
+        && all_settled(pending, y)
 }
 
 // The set y, which has grown from x, with the state q if that is not in x and the set with it still passes. That the set contains x and has no bit at n or above
 // is known, and not asked again.
-fn with_state(
-    image: &Image<'_>,
-    blockers: &Blockers<'_>,
-    below: Level,
-    x: u64,
-    q: State,
-    y: u64,
-) -> u64
-    requires { (q.0 < states_of image.now) × Grown image.now x y }
-    ensures { result ≡ with_state (system_of image.now) (held_in blockers.now) below.0 x q.0 y }
+fn with_state(pending: &Pending<'_>, q: State, y: u64) -> u64
+    requires { (q.0 < states_of pending.now.image.now) × Grown pending.now.image.now pending.now.x y }
+    ensures { result ≡ with_state (system_of pending.now.image.now) (held_in pending.now.blockers.now) pending.now.below.0 pending.now.x q.0 y }
 {
-    let head = image.head();
-    if masks::member(q, x) {
+    let head = pending.image.head();
+    if masks::member(q, pending.x) {
         return y;
     }
     let more = masks::insert(q, y);
     if masks::subset(head.initial, more) {
         return y;
     }
-    if all_settled(image, blockers, below, more) {
+    if all_settled(pending, more) {
         return more;
     }
     y
 }
 
 // The set that x grows to by its states, as what blocks it one level above `below`: each is tried with all backward sets.
-pub fn by_each(image: &Image<'_>, blockers: &Blockers<'_>, below: Level, x: u64) -> u64
-    requires { T (within (states_of image.now) x) }
-    ensures { result ≡ by_states (system_of image.now) (held_in blockers.now) below.0 x }
+pub fn by_each(pending: &Pending<'_>) -> u64
+    requires { T (within (states_of pending.now.image.now) pending.now.x) }
+    ensures { result ≡ by_states (system_of pending.now.image.now) (held_in pending.now.blockers.now) pending.now.below.0 pending.now.x }
 {
-    let head = image.head();
-    let mut y = x;
+    let head = pending.image.head();
+    let mut y = pending.x;
     for q in 0..head.states {
-        y = with_state(image, blockers, below, x, State(q), y);
+        y = with_state(pending, State(q), y);
     }
     y
 }

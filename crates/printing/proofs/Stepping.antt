@@ -1,11 +1,10 @@
 -- The cases of a word's run in a table: the loop that puts each in the place of its set, and when the table has them. Assumes nothing.
 use Prim.Native.Nat.{ℕ, suc, ◌+◌, ◌≤◌, ◌<◌}
 use mathlib.Core.Path.{◌≡◌, sym, ap, ◌∙◌}
-use mathlib.Core.Bool.{Bool, true, false, not}
+use mathlib.Core.Bool.{Bool}
 use mathlib.Core.List.{List, [], ◌∷◌, ◌++◌, append-nil}
 use native.Mathlib.Numerals.{add-one}
 use native.Mathlib.Omega.{arith}
-use borrow.Author.Tests.{not-true, not-false}
 use lib.ListN.{length, get_or, take, drop, set, take-append-drop, drop_of_length-le}
 use lib.Seq.{append_snoc, drop-set-lt, take-suc-set}
 use Rattle.lists.proofs.Lists.{drop_first}
@@ -16,7 +15,7 @@ use Rattle.automata.specs.WordTest.{accepts}
 use Rattle.automata.specs.Picks.{reached, Event, events_over, events_of}
 use Rattle.automata.specs.Answers.{ReadAs}
 use Rattle.automata.specs.declared.image.Head.{Head}
-use Rattle.printing.specs.Steps.{sets_behind, events_by, cases_of, case_after, Ready}
+use Rattle.printing.specs.Steps.{sets_behind, events_by, cases_of, case_after, Filled, Ready}
 use Rattle.printing.proofs.SetsBehind.{events_by_lem}
 
 -- the loop over the word's symbols, before symbol i: the table has the cases so far, and from there on the sets that it had
@@ -94,34 +93,32 @@ pub filled_events : (image word rest table : List ℕ) (z x : ℕ) → table ≡
     → events_by (automaton_of image) x word table ≡ events_over (automaton_of image) z x word
 filled_events image word rest table z x e = ap (events_by (automaton_of image) x word) e ∙ events_by_lem (automaton_of image) z x word rest
 
--- whether the word is accepted, and the table then
-module _ (image word : List ℕ) (head : Head) (read : ReadAs image head) (back : ℕ) (eb : back ≡ taken_back (automaton_of image) word head.finals) (inside : Bool)
-    (test : inside ≡ subset head.initial back) where
-  pub accept_tested : inside ≡ accepts (automaton_of image) word
-  unfolding accepts
-  accept_tested = test ∙ ap (subset head.initial) eb ∙ ap (λ (h : Head). subset h.initial (taken_back (automaton_of image) word h.finals)) read.read
+-- whether the word is accepted
+pub accept_tested : (image word : List ℕ) (head : Head) → ReadAs image head → (back : ℕ) → back ≡ taken_back (automaton_of image) word head.finals
+    → (inside : Bool) → inside ≡ subset head.initial back → inside ≡ accepts (automaton_of image) word
+unfolding accepts
+accept_tested image word head read back eb inside test =
+    test ∙ ap (subset head.initial) eb ∙ ap (λ (h : Head). subset h.initial (taken_back (automaton_of image) word h.finals)) read.read
 
-  pub accept_not : not inside ≡ true → false ≡ accepts (automaton_of image) word
-  accept_not t = sym (not-true inside t) ∙ accept_tested
+-- the table then, if it is long enough
+pub filled_long : (image word : List ℕ) (head : Head) (before table : List ℕ) → ReadAs image head
+    → table ≡ sets_behind (automaton_of image) head.finals word ++ drop (length word) before → Filled image word table
+filled_long image word head before table read e =
+    record {
+      rest = drop (length word) before;
+      holds = λ l. e ∙ ap (λ (h : Head). sets_behind (automaton_of image) h.finals word ++ drop (length word) before) read.read;
+    }
 
-  pub accept_yes : not inside ≡ false → true ≡ accepts (automaton_of image) word
-  accept_yes t = sym (not-false inside t) ∙ accept_tested
-
--- it is ready after the steps
-pub ready_stepped : (image word : List ℕ) (head : Head) (before filled table : List ℕ) → ReadAs image head
-    → filled ≡ sets_behind (automaton_of image) head.finals word ++ drop (length word) before
-    → table ≡ cases_of (events_by (automaton_of image) head.initial word filled) ++ drop (length word) filled → true ≡ true → Ready image word table
+-- and after the steps
+pub ready_long : (image word : List ℕ) (head : Head) (filled table : List ℕ) → ReadAs image head → Filled image word filled → length word ≤ length filled
+    → table ≡ cases_of (events_by (automaton_of image) head.initial word filled) ++ drop (length word) filled → Ready image word table
 unfolding events_of
-ready_stepped image word head before filled table read ef et t =
+ready_long image word head filled table read sets long e =
+    let A = automaton_of image in
     record {
       rest = drop (length word) filled;
       holds = λ l.
-          et
+          e
           ∙ ap (λ (events : List Event). cases_of events ++ drop (length word) filled)
-          (filled_events image word (drop (length word) before) filled head.finals head.initial ef
-          ∙ ap (λ (h : Head). events_over (automaton_of image) h.finals h.initial word) read.read);
+          (ap (λ (h : Head). events_by A h.initial word filled) read.read ∙ filled_events image word sets.rest filled A.final A.initial (sets.holds long));
     }
-
--- so it is where the word was found to be accepted
-pub ready_accepted : (image word table : List ℕ) (accepted : Bool) → not accepted ≡ false → (accepted ≡ true → Ready image word table) → Ready image word table
-ready_accepted image word table accepted t ready = ready (not-false accepted t)

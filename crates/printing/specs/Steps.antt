@@ -25,6 +25,11 @@ unfoldable pub case_after : ℕ → List Event → ℕ
 case_after X [] = X
 case_after X (event ∷ events) = case_after event.case events
 
+-- a table that is long enough for the word begins with the final set taken back by what remains behind each symbol
+pub record Filled (image word table : List ℕ) : Type 0 where
+  pub rest : List ℕ
+  pub holds : length word ≤ length table → table ≡ sets_behind (automaton_of image) (automaton_of image).final word ++ rest
+
 -- a table that is long enough for the word begins with the cases of its run
 pub record Ready (image word table : List ℕ) : Type 0 where
   pub rest : List ℕ

@@ -11,7 +11,7 @@ ghost use Rattle.printing.specs.Answers.{print_answer};
 ghost use Rattle.printing.specs.Steps.{Ready};
 ghost use Rattle.printing.specs.Putting.{events_in, event_lines, PutsEvents};
 
-use crate::steps::{accept, fill, step_through};
+use crate::steps::{accept, fill, run_through, step_through};
 use automata::image::{Image, read_image};
 use automata::refusal::Refusal;
 use automata::word::{symbols_below, taken_back};
@@ -100,6 +100,7 @@ fn print_accepted(
     requires { WordOf image.now word.now × (0 < length table.old) × Ready image.now word.now table.old }
     ensures { print_answer result room.new ≡ fitted_bytes 1 (print_of (automaton_of image.now) word.now) room.old }
 {
+    // by hand, as in `reporting`: the contract of one function over a closure would say both calls again, with each room, and the table between them
     let length = put_run(image, word, table, &mut [], room.len());
     if room.len() < length {
         return Err(Refusal::ShortRoom);
@@ -118,6 +119,7 @@ fn print_known(image: &Image<'_>, word: &[u8], room: &mut [u8]) -> Result<Option
     if !accept(image, word, &mut table) {
         return Ok(None);
     }
+    run_through(image, word, &mut table);
     print_accepted(image, word, &mut table, room)
 }
 

@@ -1,8 +1,8 @@
 // The cases that a word's run reaches, in a table: first each place holds the set inside which its case must lie, and then the case itself.
-ghost use Rattle.std.specs.Prelude.{◌≡◌, true, ◌++◌, ◌≤◌, length, drop};
+ghost use Rattle.std.specs.Prelude.{◌≡◌, ◌++◌, ◌≤◌, length, drop};
 ghost use Rattle.automata.specs.Automaton.{automaton_of, taken_back};
 ghost use Rattle.automata.specs.WordTest.{accepts, WordOf};
-ghost use Rattle.printing.specs.Steps.{sets_behind, events_by, cases_of, case_after, Ready};
+ghost use Rattle.printing.specs.Steps.{sets_behind, events_by, cases_of, case_after, Filled, Ready};
 
 use automata::backward::backward;
 use automata::image::{Image, Symbol};
@@ -40,20 +40,25 @@ pub(crate) fn step_through(image: &Image<'_>, word: &[u8], x: u64, table: &mut [
     case
 }
 
-// Whether the word is accepted. If it is, a table that is long enough has the cases of its run.
+// Whether the word is accepted. A table that is long enough then has the final set taken back by what remains behind each symbol.
 pub(crate) fn accept(image: &Image<'_>, word: &[u8], table: &mut [u64]) -> bool
     requires { WordOf image.now word.now }
     ensures accepted { result ≡ accepts (automaton_of image.now) word.now }
-    ensures ready { result ≡ true → Ready image.now word.now table.new }
+    ensures sets { Filled image.now word.now table.new }
 {
     let head = image.head();
     if table.len() < word.len() {
         return masks::subset(head.initial, taken_back(image, word, head.finals));
     }
-    let back = fill(image, word, head.finals, table);
-    if !masks::subset(head.initial, back) {
-        return false;
+    masks::subset(head.initial, fill(image, word, head.finals, table))
+}
+
+// A table that has these sets then has the cases of the word's run.
+pub(crate) fn run_through(image: &Image<'_>, word: &[u8], table: &mut [u64])
+    requires { WordOf image.now word.now × Filled image.now word.now table.old }
+    ensures { Ready image.now word.now table.new }
+{
+    if word.len() <= table.len() {
+        step_through(image, word, image.head().initial, table);
     }
-    step_through(image, word, head.initial, table);
-    true
 }

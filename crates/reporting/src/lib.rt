@@ -76,6 +76,7 @@ pub fn lines(run: Record, masks: &[u64], symbols: &[u8], room: &mut [u8]) -> Res
     ensures bytes { lines_answer result room.new
         ≡ fitted_bytes 0 (text_of (two_lines (record_as run) masks.now symbols.now)) room.old }
 {
+    // by hand, as in `printing`: the contract of one function over a closure would say both calls again, with each room, and how near the first ends
     let length = put_lines(&mut [], room.len(), run, masks, symbols);
     if room.len() < length {
         return Err(Refusal::ShortRoom);

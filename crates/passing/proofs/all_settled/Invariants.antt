@@ -4,4 +4,4 @@ use Rattle.automata.proofs.EachSymbol.{EachTried}
 use Rattle.passing.proofs.all_settled.Given as goal
 
 abbrev pub invariant-loop-s : goal.invariant-loop-s
-invariant-loop-s l = EachTried l.image (settled l.head.initial (held_in l.blockers) l.below.0 l.y) l.y l.head.symbols l.s
+invariant-loop-s l = EachTried l.pending.image.now (settled l.head.initial (held_in l.pending.blockers.now) l.pending.below.0 l.y) l.y l.head.symbols l.s

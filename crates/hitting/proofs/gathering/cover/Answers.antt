@@ -6,11 +6,11 @@ use Rattle.hitting.proofs.gathering.cover.Goals as goal
 pub returns-then-subset : goal.returns-then-subset
 returns-then-subset c = search (cover_inside, rules)
 
-pub offset_bounds-blockers-place : goal.offset_bounds-blockers-place
-offset_bounds-blockers-place c = search (cover_place, rules)
+pub offset_bounds-pending-place : goal.offset_bounds-pending-place
+offset_bounds-pending-place c = search (cover_place, rules)
 
-pub bounds-blockers-place : goal.bounds-blockers-place
-bounds-blockers-place c = search (cover_place, rules)
+pub bounds-pending-place : goal.bounds-pending-place
+bounds-pending-place c = search (cover_place, rules)
 
 pub full-requires : goal.full-requires
 full-requires c = search (some_state, states_fit, rules)

@@ -1,7 +1,7 @@
 use borrow.Author.Rules.{rules}
 use Rattle.passing.proofs.Passing.{all_ends}
 use Rattle.growing.proofs.Settles.{settle_told, settle_same, settle_goes, settle_fails}
-use Rattle.growing.proofs.trying.Growth.all_settled.Goals as goal
+use Rattle.growing.proofs.trying.all_settled.Goals as goal
 
 pub settled_anew-requires-clause-told : goal.settled_anew-requires-clause-told
 settled_anew-requires-clause-told c = search (settle_told, rules)

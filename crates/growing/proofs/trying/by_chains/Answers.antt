@@ -1,6 +1,6 @@
 use borrow.Author.Rules.{rules}
 use Rattle.growing.proofs.Tries.{tries_start, tries_go, tries_end}
-use Rattle.growing.proofs.trying.Growth.by_chains.Goals as goal
+use Rattle.growing.proofs.trying.by_chains.Goals as goal
 
 pub loop-q-init : goal.loop-q-init
 loop-q-init g c = search (tries_start, rules)

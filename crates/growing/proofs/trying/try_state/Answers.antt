@@ -1,7 +1,7 @@
 use borrow.Author.Rules.{rules}
 use Rattle.passing.proofs.States.{state_there}
 use Rattle.growing.proofs.Tries.{state_few, state_tried, set_left, set_kept, grows}
-use Rattle.growing.proofs.trying.Growth.try_state.Goals as goal
+use Rattle.growing.proofs.trying.try_state.Goals as goal
 
 pub member-requires : goal.member-requires
 member-requires g c = search (state_few, rules)

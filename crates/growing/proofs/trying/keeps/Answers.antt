@@ -1,7 +1,7 @@
 use borrow.Author.Rules.{rules}
 use Rattle.firing.proofs.Fires.{fire_known}
 use Rattle.growing.proofs.Tries.{keeps_initial, keeps_rest, settling}
-use Rattle.growing.proofs.trying.Growth.keeps.Goals as goal
+use Rattle.growing.proofs.trying.keeps.Goals as goal
 
 pub insert-more-requires : goal.insert-more-requires
 insert-more-requires g c = search (fire_known, rules)

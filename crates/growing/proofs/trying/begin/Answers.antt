@@ -1,6 +1,6 @@
 use borrow.Author.Rules.{rules}
 use Rattle.growing.proofs.Begins.{first_starts, symbol_within, first_ends, first_told, first_goes}
-use Rattle.growing.proofs.trying.Growth.begin.Goals as goal
+use Rattle.growing.proofs.trying.begin.Goals as goal
 
 pub loop-s-init : goal.loop-s-init
 loop-s-init c = search (first_starts, rules)

@@ -1,5 +1,0 @@
-use Rattle.growing.proofs.Begins.{FirstSets}
-use Rattle.growing.proofs.trying.Growth.begin.Given as goal
-
-abbrev pub invariant-loop-s : goal.invariant-loop-s
-invariant-loop-s l = FirstSets l.self l.head.symbols l.s l.grown l.lists
