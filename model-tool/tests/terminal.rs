@@ -7,8 +7,8 @@ use common::json::{object, KEYS};
 use common::{program, rings, scratch, Ended};
 use std::ffi::{c_char, c_int, CStr};
 use std::fs::{self, File, OpenOptions};
-use std::io::{self, Read, Write};
-use std::os::fd::FromRawFd;
+use std::io::{self, PipeWriter, Read, Write};
+use std::os::fd::{AsRawFd, FromRawFd};
 use std::os::unix::fs::OpenOptionsExt;
 use std::os::unix::process::{CommandExt, ExitStatusExt};
 use std::path::{Path, PathBuf};
@@ -23,12 +23,15 @@ extern "C" {
     fn ptsname_r(terminal: c_int, name: *mut c_char, length: usize) -> c_int;
     fn kill(process: c_int, signal: c_int) -> c_int;
     fn signal(number: c_int, handler: usize) -> usize;
+    fn fcntl(descriptor: c_int, command: c_int, ...) -> c_int;
 }
 
 // As Linux has them.
 const READ_AND_WRITE: c_int = 0o2;
 const NOT_CONTROLLING: c_int = 0o400;
 const CLOSED_ON_EXEC: c_int = 0o2_000_000;
+const NOT_WAITING: c_int = 0o4000;
+const SET_FLAGS: c_int = 4;
 
 const HANG_UP: c_int = 1;
 const INTERRUPT: c_int = 2;
@@ -45,6 +48,9 @@ const LONG: [usize; 4] = [2, 5, 7, 11];
 
 /// It takes more than ten seconds, and is not run to its end here.
 const ENDLESS: [usize; 5] = [2, 3, 5, 7, 11];
+
+/// How long what is to come soon may take.
+const SOON: Duration = Duration::from_secs(5);
 
 /// A pseudo-terminal: what the program writes to its own side is read from this one.
 struct Terminal {
@@ -178,8 +184,20 @@ fn interrupted(mut running: Running, signal: c_int, after: Duration) -> Ended {
     }
     let sent = Instant::now();
     let ended = running.end();
-    assert!(sent.elapsed() < Duration::from_secs(5), "it ends soon");
+    assert!(sent.elapsed() < SOON, "it ends soon");
     ended
+}
+
+/// Writes to the pipe until it has no room for a byte more.
+fn fill(mut pipe: &PipeWriter) {
+    // SAFETY: the descriptor is the pipe's own.
+    let set = |flags: c_int| unsafe { fcntl(pipe.as_raw_fd(), SET_FLAGS, flags) };
+    assert_eq!(set(NOT_WAITING), 0);
+    let bytes = [b'x'; 4096];
+    for size in [bytes.len(), 1] {
+        while pipe.write(&bytes[..size]).is_ok() {}
+    }
+    assert_eq!(set(0), 0);
 }
 
 /// A file with the model of rings, in a folder of its own.
@@ -311,11 +329,11 @@ fn programs_are_told_of_an_interrupt_by_its_number() {
 #[test]
 fn the_second_interrupt_ends_the_program_as_ever() {
     let model = rings_in(&scratch("terminal-second"), &ENDLESS);
-    let (unread, mut full) = io::pipe().unwrap();
+    let (unread, full) = io::pipe().unwrap();
     let mut command = check(&model, &[]);
     command.stdin(Stdio::null()).stderr(Stdio::piped());
-    command.stdout(full.try_clone().unwrap());
-    let filling = thread::spawn(move || while full.write_all(&[b'x'; 4096]).is_ok() {});
+    fill(&full);
+    command.stdout(full);
     let child = command.spawn().unwrap();
     drop(command);
     let mut running = Running {
@@ -324,15 +342,21 @@ fn the_second_interrupt_ends_the_program_as_ever() {
     };
     assert!(running.minds(INTERRUPT));
     running.send(INTERRUPT);
+    let sent = Instant::now();
+    while has_signal(&running.child, "SigCgt:", INTERRUPT) && sent.elapsed() < SOON {
+        thread::sleep(Duration::from_millis(1));
+    }
     thread::sleep(Duration::from_millis(300));
     assert_eq!(running.child.try_wait().unwrap(), None);
     running.send(INTERRUPT);
-    thread::sleep(Duration::from_millis(300));
-    let status = running.child.try_wait().unwrap();
+    let (sent, mut status) = (Instant::now(), None);
+    while status.is_none() && sent.elapsed() < SOON {
+        thread::sleep(Duration::from_millis(1));
+        status = running.child.try_wait().unwrap();
+    }
     running.child.kill().unwrap();
     assert_eq!(status.and_then(|status| status.signal()), Some(INTERRUPT));
     drop(unread);
-    filling.join().unwrap();
 }
 
 #[test]
