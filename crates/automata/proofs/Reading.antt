@@ -13,7 +13,7 @@ use Rattle.std.specs.Prelude.{Ok, Err}
 use Rattle.lists.specs.Tests.{choose}
 use Rattle.automata.specs.Image.{Valid, states_of, symbols_of, row_count_of, initial_of, final_of, check_image}
 use Rattle.automata.specs.Refusals.{number_of}
-use Rattle.automata.specs.Answers.{ReadAs, refused_under, read_with, read_image, image_number, head_after}
+use Rattle.automata.specs.Answers.{ReadAs, refused_under, read_with, read_image, head_read_from, image_number, head_after}
 use Rattle.automata.specs.declared.refusal.Refusal.{Refusal}
 use Rattle.automata.specs.declared.refusal.Refusal.TheVariants.{ShortImage, StateCount, SymbolCount, RowCount, ImageLength, StateSet, Pair, Row, UnevenRoom, LargeTable, UnknownSymbol, BrokenRecord, ShortRoom, UnknownEdition, UnknownWay}
 use Rattle.automata.specs.declared.image.Head.{Head}
@@ -85,6 +85,15 @@ pub head_read : (bytes : List ℕ) (rows initial finals : ℕ) → 0 ≡ check_i
     → finals ≡ final_of bytes
     → ReadAs bytes (record { states = states_of bytes; symbols = symbols_of bytes; rows = rows; initial = initial; finals = finals })
 head_read bytes rows initial finals e er ei ef = record { valid = sym e; read = rw (er, ei, ef) refl }
+
+-- the head alone, and the refusal beside it
+pub head_alone : (bytes : List ℕ) {image : List ℕ} {head : Head} → Ok image ≡ read_image bytes → ReadAs image head → Ok head ≡ head_read_from (read_image bytes)
+unfolding head_read_from
+head_alone bytes read is = rw (← read, is.read)
+
+pub refusal_alone : (bytes : List ℕ) {refusal : Refusal} → Err refusal ≡ read_image bytes → Err refusal ≡ head_read_from (read_image bytes)
+unfolding head_read_from
+refusal_alone bytes read = rw (← read)
 
 -- what the reader's answer says of the bytes: it is they, and no check refuses them
 read_of : (bytes : List ℕ) {image : List ℕ} (number : ℕ) → Ok image ≡ read_with bytes number → (number ≡ 0) × (image ≡ bytes)

@@ -39,6 +39,11 @@ read_with image (suc number) = Err (refused_under (suc number))
 unfoldable pub read_image : List ℕ → Result (List ℕ) Refusal
 read_image image = read_with image (check_image image)
 
+-- the head alone of what was read
+unfoldable pub head_read_from : Result (List ℕ) Refusal → Result Head Refusal
+head_read_from (Ok image) = Ok (head_of image)
+head_read_from (Err refusal) = Err refusal
+
 -- the number that the checks answer: 0 where none refuses
 abbrev pub checked_number : Result Unit Refusal → ℕ
 checked_number (Ok nothing) = 0

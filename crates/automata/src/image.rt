@@ -2,7 +2,7 @@
 ghost use Rattle.std.specs.Prelude.{◌≡◌, ◌+◌, ◌*◌, ◌≤◌, ◌<◌, List, ℕ, length};
 ghost use Rattle.automata.specs.Image.{Valid, symbols_of, row_count_of, offset_of, size_of, pairs_hold, row_holds, rows_hold, check_image};
 ghost use Rattle.automata.specs.Image.{outside as is_outside};
-ghost use Rattle.automata.specs.Answers.{ReadAs, checked_number, read_image};
+ghost use Rattle.automata.specs.Answers.{ReadAs, checked_number, read_image, head_read_from};
 
 use crate::bytes::{read2, read4, read8};
 use crate::refusal::Refusal;
@@ -23,7 +23,7 @@ pub struct Head {
 }
 
 // An image that no check refuses: the bytes that are lent, which a contract sees, and what they say before the rows.
-#[derive(Drop)]
+#[derive(Clone, Drop)]
 pub struct Image<'a> {
     bytes: &'a [u8],
     head: Head,
@@ -38,6 +38,22 @@ impl<'a> Model for Image<'a> {
 }
 
 impl<'a> Image<'a> {
+    // The image of bytes that are known to be valid, which is none that can be refused.
+    #[tactic(auto, using(crate::proofs::Reading::head_in))]
+    pub fn of_valid(bytes: &'a [u8]) -> Image<'a>
+        requires { Valid bytes.now }
+        ensures { result ≡ bytes.now }
+    {
+        let head = Head {
+            states: bytes[0],
+            symbols: bytes[1],
+            rows: read2(bytes, 2),
+            initial: read8(bytes, 4),
+            finals: read8(bytes, 12),
+        };
+        Image { bytes, head }
+    }
+
     // What it says before its rows.
     pub fn head(&self) -> Head
         ensures { ReadAs self.now result }
@@ -85,8 +101,9 @@ fn pairs_hold(image: &[u8]) -> bool
     let symbols = image[1];
     let mut start = 20 + 8 * usize::from(symbols);
     for s in 0..symbols {
-        let offset = offset_of(image, Symbol(s));
-        let size = size_of(image, Symbol(s));
+        let symbol = Symbol(s);
+        let offset = offset_of(image, symbol);
+        let size = size_of(image, symbol);
         if offset != start {
             return false;
         }
@@ -155,17 +172,16 @@ fn check_image(image: &[u8]) -> Result<(), Refusal>
 }
 
 // An image that no check refuses, else the first that does.
-#[tactic(auto, using(crate::proofs::Reading::head_in))]
 pub fn read_image<'a>(bytes: &'a [u8]) -> Result<Image<'a>, Refusal>
     ensures { result ≡ read_image bytes.now }
 {
     check_image(bytes)?;
-    let head = Head {
-        states: bytes[0],
-        symbols: bytes[1],
-        rows: read2(bytes, 2),
-        initial: read8(bytes, 4),
-        finals: read8(bytes, 12),
-    };
-    Ok(Image { bytes, head })
+    Ok(Image::of_valid(bytes))
+}
+
+// What the bytes say before their rows, if no check refuses them, else the first that does: a value that can be copied, and kept without the bytes.
+pub fn read_head(bytes: &[u8]) -> Result<Head, Refusal>
+    ensures { result ≡ head_read_from (read_image bytes.now) }
+{
+    Ok(read_image(bytes)?.head())
 }

@@ -1,15 +1,19 @@
--- The checks after the image's: what an edition and a way of the caller's are. Assumes nothing.
+-- The checks after the image's: what an edition and a way of the caller's are, and what the checks leave of the rooms. Assumes nothing.
 use Prim.Native.Nat.{ℕ, zero, suc, ◌≤◌}
-use mathlib.Core.Path.{◌≡◌, refl}
+use mathlib.Core.Path.{◌≡◌, refl, sym, ◌∙◌}
 use mathlib.Core.Bool.{true, false}
+use mathlib.Core.List.{List}
 use native.Mathlib.Omega.{arith}
 use borrow.Author.Tests.{ne_eqb}
+use lib.ListN.{length}
 use Rattle.std.specs.Prelude.{Ok, Err}
 use Rattle.lists.specs.Tests.{◌or◌, neg}
 use Rattle.automata.specs.Refusals.{number_of}
 use Rattle.automata.specs.declared.refusal.Refusal.{Refusal}
 use Rattle.automata.specs.declared.refusal.Refusal.TheVariants.{ShortImage, StateCount, SymbolCount, RowCount, ImageLength, StateSet, Pair, Row, UnevenRoom, LargeTable, UnknownSymbol, BrokenRecord, ShortRoom, UnknownEdition, UnknownWay}
-use Rattle.machine.specs.Runs.{unknown_edition, unknown_way}
+use Rattle.machine.specs.Lent.{BlockerRoom, WordRoom, EvenRoom, lent_of}
+use Rattle.machine.specs.Runs.{unknown_edition, unknown_way, check_terms}
+use Rattle.machine.proofs.RunsKept.{rooms_passed}
 use Rattle.checker.specs.declared.terms.Way.{Way}
 use Rattle.checker.specs.declared.terms.Edition.{Edition}
 use Rattle.checker.specs.Calls.{edition_of, way_of}
@@ -74,3 +78,16 @@ refused_from_20 UnknownWay = omega arith
 
 pub some_number : (refusal : Refusal) → number_of refusal ≡ 0 → ⊥
 some_number refusal e = omega (arith, e, refused_from_20 refusal)
+
+-- the rooms have passed their checks
+pub record Checked (room : BlockerRoom) (word : WordRoom) : Type 0 where
+  pub blocker_room : EvenRoom room
+  pub word_room : length word.cases ≡ length word.symbols
+  pub few_places : length word.cases ≤ 65536
+
+-- none of those of the rooms applies
+pub rooms_checked : (room : BlockerRoom) (word : WordRoom) (hints : List ℕ) (edition way number : ℕ)
+    → number ≡ check_terms (lent_of room word) hints edition way 0 → number ≡ 0 → Checked room word
+rooms_checked room word hints edition way number passed none =
+    let c = rooms_passed (lent_of room word) hints edition way (sym passed ∙ none) in
+    record { blocker_room = c.even.blockers; word_room = c.even.symbols; few_places = c.few_places }

@@ -1,6 +1,6 @@
 // The lowest level that holds no blocker. Where the levels are few, or more than there are marks, each is searched for; else those that hold one are marked
 // in one pass.
-ghost use Rattle.std.specs.Prelude.{◌≡◌, ◌<◌, eqb};
+ghost use Rattle.std.specs.Prelude.{◌≡◌, ◌<◌, eqb, false, not, length, get_or};
 ghost use Rattle.lists.specs.Tests.{neg};
 ghost use Rattle.lists.specs.Lists.{any, first_from};
 ghost use Rattle.closing.specs.Close.{level_of};
@@ -25,6 +25,15 @@ fn marked(levels: &[u32]) -> [bool; sizes::MARKS]
     marks
 }
 
+// Whether the level has no mark.
+fn is_unmarked(marks: &[bool; sizes::MARKS], level: Level) -> bool
+    requires { level.0 < length marks.now }
+    ensures { result ≡ not (get_or marks.now level.0 false) }
+{
+    // as Rust, std has no `usize::from` of 32 bits
+    !marks[level.0 as usize]
+}
+
 // The lowest level from 1 to `top` that none of these levels is.
 pub fn lowest_none(levels: &[u32], top: Level) -> Option<Level>
     requires { top.0 < 4294967295 }
@@ -33,7 +42,7 @@ pub fn lowest_none(levels: &[u32], top: Level) -> Option<Level>
     if sizes::MARKED_LEVELS <= top.0 && (top.0 as usize) < sizes::MARKS {
         let marks = marked(levels);
         return (1..top.0 + 1)
-            .find(|level| !marks[*level as usize])
+            .find(|level| is_unmarked(&marks, Level(*level)))
             .map(Level);
     }
     (1..top.0 + 1)

@@ -39,7 +39,6 @@ use Rattle.automata.specs.Walk.{row_of, RowsStand}
 use Rattle.automata.specs.declared.rows.Row as Read
 use Rattle.automata.proofs.BackwardSets.{backward_members, backward_monotone}
 use Rattle.automata.proofs.ValidImage.{valid_kept}
-use Rattle.firing.specs.declared.linking.RowChains.{RowChains}
 use Rattle.firing.specs.Linked.{place_of, Belongs, firing, chain_of, fires_at}
 use Rattle.firing.specs.Sets.{SetsOf, Trying}
 use Rattle.firing.proofs.Rows.{Numbered, numbered, belongs_in, belongs_stands, one_symbol}
@@ -56,7 +55,7 @@ pub more_holds : (Y q : ℕ) → T (subset Y (union Y (single q)))
 more_holds Y q = members_subset Y (union Y (single q)) (λ p m. (union_members Y (single q) p).1 (inl m))
 
 -- a case that comes to be inside the set by state q fires there
-module _ {N : ℕ} {image : List ℕ} {q Y : ℕ} {chains : RowChains N} (trying : Trying image q Y chains) where
+module _ {image : List ℕ} {q Y : ℕ} {lasts links symbols : List ℕ} (trying : Trying image q Y lasts links symbols) where
   abbrev X : ℕ
   X = trying.X
 
@@ -147,8 +146,8 @@ row_either Y one row p m = at (subset row.case Y) refl
 
 -- The walk along the rows that fire at q, before the row that is told: the sets have what they had, nothing but states of the larger set's backward sets, and
 -- the state of each row behind that fires and whose case is inside the larger set.
-pub record Firing {N : ℕ} (image : List ℕ) (q Y more : ℕ) (chains : RowChains N) (before sets : List ℕ) (told : Option ℕ) : Type 0 where
-  pub trying : Trying image q Y chains
+pub record Firing (image : List ℕ) (q Y more : ℕ) (lasts links symbols before sets : List ℕ) (told : Option ℕ) : Type 0 where
+  pub trying : Trying image q Y lasts links symbols
   pub were : SetsOf image Y before
   pub larger : more ≡ union Y (single q)
   pub long : length sets ≡ length before
@@ -162,15 +161,15 @@ chain_is : (q : State) (chain : ℕ) → chain ≡ chain_of (Some q) → chain �
 unfolding chain_of
 chain_is q chain e = e
 
-module _ {N : ℕ} {image : List ℕ} {q : State} {Y : ℕ} {chains : RowChains N} (trying : Trying image q.0 Y chains) (chain : ℕ)
+module _ {image : List ℕ} {q : State} {Y : ℕ} {lasts links symbols : List ℕ} (trying : Trying image q.0 Y lasts links symbols) (chain : ℕ)
     (is : chain ≡ chain_of (Some q)) where
-  pub fire_first : chain < length chains.lasts
+  pub fire_first : chain < length lasts
   fire_first = omega (arith, chain_is q chain is, fire_known trying, trying.linked.room.lasts_fit)
 
   pub fire_starts : {sets : List ℕ} → SetsOf image Y sets → (more : ℕ) (told : Option ℕ) → more ≡ union Y (single q.0)
-      → told ≡ told_number (get_or chains.lasts chain 0) → Firing image q.0 Y more chains sets sets told
+      → told ≡ told_number (get_or lasts chain 0) → Firing image q.0 Y more lasts links symbols sets sets told
   fire_starts are more told put e =
-      let first : told ≡ told_number (get_or chains.lasts (suc q.0) 0) = e ∙ ap (λ (k : ℕ). told_number (get_or chains.lasts k 0)) (chain_is q chain is) in
+      let first : told ≡ told_number (get_or lasts (suc q.0) 0) = e ∙ ap (λ (k : ℕ). told_number (get_or lasts k 0)) (chain_is q chain is) in
       record {
         trying = trying;
         were = are;
@@ -184,12 +183,12 @@ module _ {N : ℕ} {image : List ℕ} {q : State} {Y : ℕ} {chains : RowChains 
         fired = λ r s n l f b t. absurd (none_behind trying.linked.chained (suc q.0) told first r l f n);
       }
 
-module _ {N : ℕ} {image : List ℕ} {q Y more : ℕ} {chains : RowChains N} {before sets : List ℕ} {told : Option ℕ}
-    (so_far : Firing image q Y more chains before sets told) where
+module _ {image : List ℕ} {q Y more : ℕ} {lasts links symbols before sets : List ℕ} {told : Option ℕ}
+    (so_far : Firing image q Y more lasts links symbols before sets told) where
   abbrev set_of : ℕ
   set_of = so_far.trying.X
 
-  chained : Chained (fires_at image set_of) (row_count_of image) chains.lasts chains.links
+  chained : Chained (fires_at image set_of) (row_count_of image) lasts links
   chained = so_far.trying.linked.chained
 
   valid : Valid image
@@ -199,33 +198,30 @@ module _ {N : ℕ} {image : List ℕ} {q Y more : ℕ} {chains : RowChains N} {b
     here : (row < row_count_of image) × (fires_at image set_of row ≡ suc q)
     here = so_far.at_row row at_row
 
-    belongs : Belongs image (get_or chains.symbols row 0) row
+    belongs : Belongs image (get_or symbols row 0) row
     belongs = so_far.trying.linked.belongs row here.0
 
-    fire_symbol : row < length chains.symbols
+    pub fire_symbol : row < length symbols
     fire_symbol = omega (arith, here.0, so_far.trying.linked.room.symbols_fit)
 
-    pub fire_within : (size : ℕ) → length chains.symbols ≡ size → row < size
-    fire_within size long = omega (arith, fire_symbol)
-
-    pub fire_link : row < length chains.links
+    pub fire_link : row < length links
     fire_link = omega (arith, here.0, so_far.trying.linked.room.links_fit)
 
     pub fire_low : row < 4096
     fire_low = omega (arith, here.0, (valid_kept image valid).few_rows)
 
     pub fire_stands : (at : ℕ) → at ≡ place_of image row → RowsStand image 1 at
-    fire_stands at e = belongs_stands image valid (get_or chains.symbols row 0) row belongs at e
+    fire_stands at e = belongs_stands image valid (get_or symbols row 0) row belongs at e
 
-    pub fire_place : (symbol : ℕ) → symbol ≡ get_or chains.symbols row 0 → symbol < length sets
+    pub fire_place : (symbol : ℕ) → symbol ≡ get_or symbols row 0 → symbol < length sets
     fire_place symbol e = omega (arith, e, belongs.known, so_far.were.room, so_far.long)
 
-    module _ (next : Option ℕ) (is : next ≡ told_number (get_or chains.links row 0)) where
+    module _ (next : Option ℕ) (is : next ≡ told_number (get_or links row 0)) where
       pub fire_nearer : behind next < behind told
       fire_nearer = rw (at_row, behind_some) (next_nearer chained here next is)
 
-      pub fire_goes : (symbol one stands : ℕ) → symbol ≡ get_or chains.symbols row 0 → stands ≡ place_of image row
-          → one ≡ with_row more (get_or sets symbol 0) (row_at image stands) → Firing image q Y more chains before (set sets symbol one) next
+      pub fire_goes : (symbol one stands : ℕ) → symbol ≡ get_or symbols row 0 → stands ≡ place_of image row
+          → one ≡ with_row more (get_or sets symbol 0) (row_at image stands) → Firing image q Y more lasts links symbols before (set sets symbol one) next
       fire_goes symbol one stands es place made =
           record {
             trying = so_far.trying;
@@ -271,7 +267,7 @@ module _ {N : ℕ} {image : List ℕ} {q Y more : ℕ} {chains : RowChains N} {b
                   (record {
                     row = row_at image (place_of image row);
                     listed = subst (λ (x : ℕ). row_at image (place_of image row) ∈ rows_of image x) (sym (e ∙ es))
-                        (belongs_in image valid (get_or chains.symbols row 0) row belongs);
+                        (belongs_in image valid (get_or symbols row 0) row belongs);
                     leads = record { state = t.1; inside = t.0 };
                   })
 
@@ -288,7 +284,7 @@ module _ {N : ℕ} {image : List ℕ} {q Y more : ℕ} {chains : RowChains N} {b
               at : (r ≡ row) ⊎ (suc row ≤ r) → Member (row_at image (place_of image r)).state (get_or sets' s 0)
               at (inl e) =
                   let same : s ≡ symbol =
-                  one_symbol image valid s (get_or chains.symbols row 0) row (subst (λ (x : ℕ). Belongs image s x) e b) belongs ∙ sym es in
+                  one_symbol image valid s (get_or symbols row 0) row (subst (λ (x : ℕ). Belongs image s x) e b) belongs ∙ sym es in
                   subst (λ (x : ℕ). Member (row_at image (place_of image x)).state (get_or sets' s 0)) (sym e)
                   (subst (λ (x : ℕ). Member (row_at image (place_of image row)).state (get_or sets' x 0)) (sym same)
                   (subst (Member (row_at image (place_of image row)).state) (sym at_symbol)

@@ -35,14 +35,18 @@ abbrev pub fires_at : List ℕ → ℕ → ℕ → ℕ
 fires_at image X r = firing (row_at image (place_of image r)).case X
 
 -- the tables have places for all rows and all states
-pub record RowRoom {N : ℕ} (image : List ℕ) (chains : RowChains N) : Type 0 where
-  pub lasts_fit : 65 ≤ length chains.lasts
-  pub links_fit : row_count_of image ≤ length chains.links
-  pub symbols_fit : row_count_of image ≤ length chains.symbols
+pub record RowRoom (image lasts links symbols : List ℕ) : Type 0 where
+  pub lasts_fit : 65 ≤ length lasts
+  pub links_fit : row_count_of image ≤ length links
+  pub symbols_fit : row_count_of image ≤ length symbols
 
 -- the first `count` rows are chained by the states at which they can fire, and the symbol of each is told
-pub record Linked {N : ℕ} (image : List ℕ) (X count : ℕ) (chains : RowChains N) : Type 0 where
+pub record Linked (image : List ℕ) (X count : ℕ) (lasts links symbols : List ℕ) : Type 0 where
   pub valid : Valid image
-  pub room : RowRoom image chains
-  pub chained : Chained (fires_at image X) count chains.lasts chains.links
-  pub belongs : (r : ℕ) → r < count → Belongs image (get_or chains.symbols r 0) r
+  pub room : RowRoom image lasts links symbols
+  pub chained : Chained (fires_at image X) count lasts links
+  pub belongs : (r : ℕ) → r < count → Belongs image (get_or symbols r 0) r
+
+-- the same of the tables of a `RowChains`
+abbrev pub LinkedBy : {N : ℕ} → List ℕ → ℕ → ℕ → RowChains N → Type 0
+LinkedBy image X count chains = Linked image X count chains.lasts chains.links chains.symbols

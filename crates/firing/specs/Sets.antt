@@ -17,9 +17,13 @@ pub record Below (X q Y : ℕ) : Type 0 where
   pub above : (p : ℕ) → q ≤ p → Member p Y → Member p X
 
 -- State q is tried for Y, which lacks it and has grown from a set X by states below q. The rows are chained by what X lacks.
-pub record Trying {N : ℕ} (image : List ℕ) (q Y : ℕ) (chains : RowChains N) : Type 0 where
+pub record Trying (image : List ℕ) (q Y : ℕ) (lasts links symbols : List ℕ) : Type 0 where
   pub X : ℕ
-  pub linked : Linked image X (row_count_of image) chains
+  pub linked : Linked image X (row_count_of image) lasts links symbols
   pub below : Below X q Y
   pub known : q < states_of image
   pub new : Member q X → ⊥
+
+-- the same with the tables of a `RowChains`
+abbrev pub TryingBy : {N : ℕ} → List ℕ → ℕ → ℕ → RowChains N → Type 0
+TryingBy image q Y chains = Trying image q Y chains.lasts chains.links chains.symbols

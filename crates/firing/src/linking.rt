@@ -2,7 +2,7 @@
 // inside the set only when that state does.
 ghost use Rattle.std.specs.Prelude.{◌≡◌, suc, ◌+◌, ◌≤◌, ◌<◌};
 ghost use Rattle.automata.specs.Image.{symbols_of, row_count_of, span_start};
-ghost use Rattle.firing.specs.Linked.{place_of, rows_to, chain_of, Belongs, Linked};
+ghost use Rattle.firing.specs.Linked.{place_of, rows_to, chain_of, Belongs, Linked, LinkedBy};
 ghost use Rattle.firing.specs.Linked.{firing as firing_of};
 
 use automata::image::{Image, Symbol};
@@ -55,42 +55,79 @@ pub(crate) fn chain_of(fires: Option<State>) -> usize
     }
 }
 
+// One row more is chained: the one with this number, of the symbol.
+fn link_row(
+    image: &Image<'_>,
+    x: u64,
+    symbol: Symbol,
+    row: usize,
+    lasts: &mut [u16],
+    links: &mut [u16],
+    symbols: &mut [u8],
+)
+    requires { Linked image.now x row lasts.old links.old symbols.old × Belongs image.now symbol.0 row }
+    ensures { Linked image.now x (row + 1) lasts.new links.new symbols.new }
+{
+    let case = image.row_at(place_of(image, row)).case;
+    let chain = chain_of(firing(case, x));
+    chains::link(lasts, links, chain, row);
+    symbols[row] = symbol.0;
+}
+
+// The rows of the symbol.
+fn link_symbol(
+    image: &Image<'_>,
+    x: u64,
+    symbol: Symbol,
+    lasts: &mut [u16],
+    links: &mut [u16],
+    symbols: &mut [u8],
+)
+    requires { Linked image.now x (rows_to image.now (span_start image.now symbol.0)) lasts.old links.old symbols.old × (symbol.0 < symbols_of image.now) }
+    ensures { Linked image.now x (rows_to image.now (span_start image.now (suc symbol.0))) lasts.new links.new symbols.new }
+{
+    let rows = rows_of(image, symbol);
+    for row in rows_to(image, rows.start)..rows_to(image, rows.end) {
+        link_row(image, x, symbol, row, lasts, links, symbols);
+    }
+}
+
+// All rows of the image, in tables that chain none before, as tables of zeros.
+pub fn link_rows(
+    image: &Image<'_>,
+    x: u64,
+    lasts: &mut [u16],
+    links: &mut [u16],
+    symbols: &mut [u8],
+)
+    requires { Linked image.now x 0 lasts.old links.old symbols.old }
+    ensures { Linked image.now x (row_count_of image.now) lasts.new links.new symbols.new }
+{
+    for symbol in 0..image.head().symbols {
+        link_symbol(image, x, Symbol(symbol), lasts, links, symbols);
+    }
+}
+
 impl<const N: usize> RowChains<N> {
-    // One row more is chained: the one with this number, of the symbol.
-    fn link_row(&mut self, image: &Image<'_>, x: u64, symbol: Symbol, row: usize)
-        requires { Linked image.now x row self.old × Belongs image.now symbol.0 row }
-        ensures { Linked image.now x (row + 1) self.new }
-    {
-        let case = image.row_at(place_of(image, row)).case;
-        let chain = chain_of(firing(case, x));
-        chains::link(&mut self.lasts, &mut self.links, chain, row);
-        self.symbols[row] = symbol.0;
-    }
-
-    // The rows of the symbol.
-    fn link_symbol(&mut self, image: &Image<'_>, x: u64, symbol: Symbol)
-        requires { Linked image.now x (rows_to image.now (span_start image.now symbol.0)) self.old × (symbol.0 < symbols_of image.now) }
-        ensures { Linked image.now x (rows_to image.now (span_start image.now (suc symbol.0))) self.new }
-    {
-        let rows = rows_of(image, symbol);
-        for row in rows_to(image, rows.start)..rows_to(image, rows.end) {
-            self.link_row(image, x, symbol, row);
-        }
-    }
-
     // All rows of the image.
     pub fn of(image: &Image<'_>, x: u64) -> RowChains<N>
         requires { row_count_of image.now ≤ N }
-        ensures { Linked image.now x (row_count_of image.now) result }
+        ensures { LinkedBy image.now x (row_count_of image.now) result }
     {
         let mut chains = RowChains {
             lasts: [0; 65],
             links: [0; N],
             symbols: [0; N],
         };
-        for symbol in 0..image.head().symbols {
-            chains.link_symbol(image, x, Symbol(symbol));
-        }
+        // that the image is valid, as `link_rows` asks, is known once its head is read
+        let _head = image.head();
+        link_rows(
+            image,
+            x,
+            &mut chains.lasts,
+            &mut chains.links,
+            &mut chains.symbols,
+        );
         chains
     }
 }

@@ -1,12 +1,12 @@
 -- The backward sets of X and the lists of what covers them, that a growth begins with. Assumes nothing.
 use Prim.Native.Nat.{ℕ, zero, suc, ◌+◌, ◌≤◌, ◌<◌}
 use mathlib.Core.Path.{◌≡◌, refl, sym, ap, subst, ◌∙◌}
-use mathlib.Core.Bool.{Bool, false, not}
+use mathlib.Core.Bool.{Bool, true, false, not}
 use mathlib.Core.List.{List}
 use native.Mathlib.Decide.{ℕ_discrete}
 use native.Mathlib.Omega.{arith}
-use borrow.Author.Tests.{not-false}
-use lib.Dec.{T}
+use borrow.Author.Tests.{not-false, eqb-true, eqb-false}
+use lib.Dec.{T, eqb}
 use lib.ListN.{length, get_or, set, length-set}
 use lib.Seq.{get_or-set_same, get_or-set_other}
 use Rattle.std.proofs.Common.{Option, Some, None}
@@ -28,7 +28,7 @@ use Rattle.covering.specs.Listed.{one_holds, part, UpTo, in_order, nowhere, List
 use Rattle.covering.proofs.Covering.{part_kept, up_to_further}
 use Rattle.growing.specs.declared.trying.Grown.{Grown}
 use Rattle.growing.specs.declared.trying.Lists.{Lists}
-use Rattle.growing.specs.Near.{list_of}
+use Rattle.growing.specs.Near.{list_of, first_place}
 use Rattle.growing.specs.Kept.{SymbolRoom, Growing}
 
 -- what the tables have places for
@@ -59,6 +59,21 @@ up_to_same : (place : Option ℕ) → UpTo place place
 up_to_same None = nowhere
 up_to_same (Some place) = in_order (omega arith)
 
+-- where the first list begins, by the test of the level
+pub place_bottom : (below : ℕ) (bottom : Bool) → bottom ≡ eqb below 0 → bottom ≡ true → None ≡ first_place below
+unfolding first_place
+place_bottom below bottom e t = sym (rw (eqb-true below 0 (sym e ∙ t)))
+
+pub place_above : (below : ℕ) (bottom : Bool) → bottom ≡ eqb below 0 → bottom ≡ false → Some 0 ≡ first_place below
+unfolding first_place
+place_above zero bottom e f = absurd (eqb-false 0 0 (sym e ∙ f) refl)
+place_above (suc below) bottom e f = refl
+
+first_bottom : (below : ℕ) {first : Option ℕ} → first ≡ first_place below → below ≡ 0 → first ≡ None
+unfolding first_place
+first_bottom zero e z = e
+first_bottom (suc below) e z = absurd (omega (arith, z))
+
 -- the first sets and lists, before symbol s
 pub record FirstSets (pending : Pending) (bound s : ℕ) (grown : Grown) (lists : Lists) : Type 0 where
   pub all : bound ≡ symbols_of pending.image.now
@@ -73,9 +88,9 @@ pub record FirstSets (pending : Pending) (bound s : ℕ) (grown : Grown) (lists 
       → T (Machine.settled (initial_of pending.image.now) (held_in pending.blockers.now) pending.below.0 pending.x (backward (rows_of pending.image.now t) pending.x))
 
 pub first_starts : {pending : Pending} {head : Head} {grown : Grown} {near : List ℕ} (ends : List (Option ℕ)) → ReadAs pending.image.now head
-    → grown.set ≡ pending.x → length grown.sets ≡ 64 → length grown.next ≡ 64 → length ends ≡ 65 → (first : Option ℕ) → (pending.below.0 ≡ 0 → first ≡ None)
+    → grown.set ≡ pending.x → length grown.sets ≡ 64 → length grown.next ≡ 64 → length ends ≡ 65 → (first : Option ℕ) → first ≡ first_place pending.below.0
     → FirstSets pending head.symbols 0 grown (record { near = near; ends = set ends 0 first })
-first_starts {pending} ends read begun sets_long next_long ends_long first bottom =
+first_starts {pending} ends read begun sets_long next_long ends_long first is =
     let few = (valid_kept pending.image.now read.valid).symbols_fit in
     let zeroth : get_or (set ends 0 first) 0 None ≡ first = get_or-set_same ends 0 first None (omega arith) in
     record {
@@ -86,7 +101,7 @@ first_starts {pending} ends read begun sets_long next_long ends_long first botto
         ends_fit = omega (arith, few, length-set ends 0 first);
       };
       begun = begun;
-      bottom = λ z. zeroth ∙ bottom z;
+      bottom = λ z. zeroth ∙ first_bottom pending.below.0 is z;
       ahead = λ t l. let e : t ≡ 0 = omega arith in rw e (up_to_same _);
       are = λ t l. absurd (omega arith);
       tells = λ t l. absurd (omega arith);

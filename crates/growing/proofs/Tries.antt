@@ -26,7 +26,6 @@ use Rattle.passing.specs.Grown as Passing
 use Rattle.passing.specs.Grown.{all_settled}
 use Rattle.passing.proofs.Passing.{pass_initial, pass_grown}
 use Rattle.passing.proofs.States.{grown_more, state_kept, state_left, StatesTried, states_start, states_go, states_end}
-use Rattle.firing.specs.declared.linking.RowChains.{RowChains}
 use Rattle.firing.specs.Linked.{Linked}
 use Rattle.firing.specs.Sets.{SetsOf, Trying}
 use Rattle.firing.proofs.Fires.{in_more, more_holds}
@@ -34,7 +33,7 @@ use Rattle.growing.specs.declared.trying.Grown.{Grown}
 use Rattle.growing.specs.declared.trying.Lists.{Lists}
 use Rattle.growing.specs.Kept.{AllSettled, Growing, Copied, Same, Settling}
 
-pub state_few : {N : ℕ} {image : List ℕ} {X q count : ℕ} {rows : RowChains N} → Linked image X count rows → q < states_of image → q < 64
+pub state_few : {image : List ℕ} {X q count : ℕ} {lasts links symbols : List ℕ} → Linked image X count lasts links symbols → q < states_of image → q < 64
 state_few {image} linked l = omega (arith, (valid_kept image linked.valid).states_fit)
 
 module _ {pending : Pending} {q : ℕ} {grown : Grown} {lists : Lists} (growing : Growing pending q grown lists) where
@@ -47,8 +46,8 @@ module _ {pending : Pending} {q : ℕ} {grown : Grown} {lists : Lists} (growing 
   abbrev more : ℕ
   more = union grown.set (single q)
 
-  pub state_tried : {N : ℕ} {rows : RowChains N} → Linked image pending.x (row_count_of image) rows → q < states_of image
-      → (there : Bool) → there ≡ member q pending.x → there ≡ false → Trying image q grown.set rows
+  pub state_tried : {lasts links symbols : List ℕ} → Linked image pending.x (row_count_of image) lasts links symbols → q < states_of image
+      → (there : Bool) → there ≡ member q pending.x → there ≡ false → Trying image q grown.set lasts links symbols
   state_tried linked l there test new =
       record {
         X = pending.x;
@@ -66,7 +65,7 @@ module _ {pending : Pending} {q : ℕ} {grown : Grown} {lists : Lists} (growing 
     pub keeps_initial : lacks ≡ true → false ≡ passes (system_of image) table pending.below.0 pending.x more
     keeps_initial t = pass_initial image table pending.below.0 pending.x more read lacks (test ∙ ap (subset head.initial) put) t
 
-    pub keeps_rest : {N : ℕ} {rows : RowChains N} → Trying image q grown.set rows → lacks ≡ false → (r : Bool)
+    pub keeps_rest : {lasts links symbols : List ℕ} → Trying image q grown.set lasts links symbols → lacks ≡ false → (r : Bool)
         → r ≡ all_settled image table pending.below.0 more' → r ≡ passes (system_of image) table pending.below.0 pending.x more
     keeps_rest trying f r e =
         pass_grown image table pending.below.0 pending.x more read (larger trying.known) lacks r (test ∙ ap (subset head.initial) put) f

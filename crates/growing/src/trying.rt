@@ -1,14 +1,14 @@
 // The growth by states over tables: the backward sets of the set so far, the lists of what covers them, and the rows by the states at which they fire.
-ghost use Rattle.std.specs.Prelude.{◌≡◌, true, ◌+◌, ◌≤◌, ◌<◌, T, length, option_copied, None};
+ghost use Rattle.std.specs.Prelude.{◌≡◌, true, ◌+◌, ◌≤◌, ◌<◌, T, length, option_copied};
 ghost use Rattle.masks.specs.Sets.{union, single, within};
 ghost use Rattle.automata.specs.Image.{states_of, row_count_of};
 ghost use Rattle.machine.specs.Machine.{passes, with_state, by_states};
 ghost use Rattle.machine.specs.Runs.{system_of};
 ghost use Rattle.blockers.specs.Tables.{held_in};
 ghost use Rattle.passing.specs.Grown.{all_settled};
-ghost use Rattle.firing.specs.Linked.{Linked};
-ghost use Rattle.firing.specs.Sets.{SetsOf, Trying};
-ghost use Rattle.growing.specs.Near.{list_of};
+ghost use Rattle.firing.specs.Linked.{LinkedBy};
+ghost use Rattle.firing.specs.Sets.{SetsOf, TryingBy};
+ghost use Rattle.growing.specs.Near.{list_of, first_place};
 ghost use Rattle.growing.specs.Kept.{Growing, Copied, Same, Settling};
 
 use automata::backward::backward;
@@ -35,17 +35,21 @@ struct Lists {
     ends: [Option<usize>; 65],
 }
 
-// The first `count` sets of one table become those of the other. Two parts of fields that are lent together get no proof yet, so the tables are parameters here.
+// The first `count` sets of one table become those of the other. Two parts of fields that are lent together get no proof yet, so the tables are parameters here. One
+// by one and not inlined: else it becomes a call of C's memmove, which the archive would need from outside.
+#[inline(never)]
 fn copy(from: &[u64; 64], to: &mut [u64; 64], count: usize)
     requires { count ≤ 64 }
     ensures { Copied count from.now to.new }
 {
-    to[..count].copy_from_slice(&from[..count]);
+    for i in 0..count {
+        to[i] = from[i];
+    }
 }
 
 // Where the first list begins. At level 0 no blocker covers a case, and there are no lists.
 fn first_place(below: Level) -> Option<usize>
-    ensures { below.0 ≡ 0 → result ≡ None }
+    ensures { result ≡ first_place below.0 }
 {
     if below == Level(0) {
         return None;
@@ -54,12 +58,12 @@ fn first_place(below: Level) -> Option<usize>
 }
 
 impl Lists {
-    // The list of the symbol.
-    fn of(&self, symbol: usize) -> Option<&[u64]>
-        requires { symbol + 1 < length self.now.ends }
-        ensures { option_copied result ≡ list_of self.now.near self.now.ends symbol }
+    // The list at a symbol's place.
+    fn of(&self, place: usize) -> Option<&[u64]>
+        requires { place + 1 < length self.now.ends }
+        ensures { option_copied result ≡ list_of self.now.near self.now.ends place }
     {
-        listed(&self.near, self.ends[symbol], self.ends[symbol + 1])
+        listed(&self.near, self.ends[place], self.ends[place + 1])
     }
 }
 
@@ -71,14 +75,15 @@ fn begin(pending: &Pending<'_>, grown: &mut Grown, lists: &mut Lists) -> bool
     let head = pending.image.head();
     lists.ends[0] = first_place(pending.below);
     for s in 0..head.symbols {
-        let symbol = usize::from(s);
-        let p = backward(pending.image, Symbol(s), pending.x).set;
-        lists.ends[symbol + 1] = list_on(
+        let symbol = Symbol(s);
+        let place = usize::from(symbol.0);
+        let p = backward(pending.image, symbol, pending.x).set;
+        lists.ends[place + 1] = list_on(
             pending.blockers,
             pending.below,
             p,
             &mut lists.near,
-            lists.ends[symbol],
+            lists.ends[place],
         );
         if !is_settled(
             head.initial,
@@ -86,11 +91,11 @@ fn begin(pending: &Pending<'_>, grown: &mut Grown, lists: &mut Lists) -> bool
             pending.below,
             pending.x,
             p,
-            lists.of(symbol),
+            lists.of(place),
         ) {
             return false;
         }
-        grown.sets[symbol] = p;
+        grown.sets[place] = p;
     }
     true
 }
@@ -102,9 +107,10 @@ fn all_settled(pending: &Pending<'_>, lists: &Lists, grown: &Grown, more: u64) -
 {
     let head = pending.image.head();
     for s in 0..head.symbols {
-        let symbol = usize::from(s);
-        let p = grown.next[symbol];
-        let was = grown.sets[symbol];
+        let symbol = Symbol(s);
+        let place = usize::from(symbol.0);
+        let p = grown.next[place];
+        let was = grown.sets[place];
         if !settled_anew(
             head.initial,
             pending.blockers,
@@ -112,7 +118,7 @@ fn all_settled(pending: &Pending<'_>, lists: &Lists, grown: &Grown, more: u64) -
             more,
             p,
             was,
-            lists.of(symbol),
+            lists.of(place),
         ) {
             return false;
         }
@@ -128,7 +134,7 @@ fn keeps<const N: usize>(
     q: State,
     grown: &mut Grown,
 ) -> bool
-    requires { Trying pending.now.image.now q.0 grown.old.set rows.now × Growing pending.now q.0 grown.old lists.now }
+    requires { TryingBy pending.now.image.now q.0 grown.old.set rows.now × Growing pending.now q.0 grown.old lists.now }
     ensures passes { result
         ≡ passes (system_of pending.now.image.now) (held_in pending.now.blockers.now) pending.now.below.0 pending.now.x (union grown.old.set (single q.0)) }
     ensures sets { result ≡ true → SetsOf pending.now.image.now (union grown.old.set (single q.0)) grown.new.next }
@@ -153,7 +159,7 @@ fn try_state<const N: usize>(
     q: State,
     grown: &mut Grown,
 )
-    requires { Linked pending.now.image.now pending.now.x (row_count_of pending.now.image.now) rows.now × Growing pending.now q.0 grown.old lists.now
+    requires { LinkedBy pending.now.image.now pending.now.x (row_count_of pending.now.image.now) rows.now × Growing pending.now q.0 grown.old lists.now
         × (q.0 < states_of pending.now.image.now) }
     ensures grows { Growing pending.now (q.0 + 1) grown.new lists.now }
     ensures set { grown.new.set
@@ -181,7 +187,9 @@ fn by_chains<const N: usize>(pending: &Pending<'_>, lists: &Lists, grown: &mut G
     grown.set
 }
 
-// The set that x grows to by its states. Where a set of x is not settled, each state is tried with all backward sets.
+// The set that x grows to by its states. Where a set of x is not settled, each state is tried with all backward sets. Not inlined, so that the tables take stack
+// only where they are used.
+#[inline(never)]
 pub(crate) fn by_tables(pending: &Pending<'_>) -> u64
     requires { T (within (states_of pending.now.image.now) pending.now.x) }
     ensures { result ≡ by_states (system_of pending.now.image.now) (held_in pending.now.blockers.now) pending.now.below.0 pending.now.x }

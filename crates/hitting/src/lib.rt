@@ -15,7 +15,8 @@ ghost use Rattle.machine.specs.Runs.{system_of};
 ghost use Rattle.machine.specs.Hitting.{by_hitting_set};
 ghost use Rattle.blockers.specs.Tables.{held_in};
 
-// The set that x grows to, by the sets gathered in a table that has room for them.
+// The set that x grows to, by the sets gathered in a table that has room for them. Not inlined, so that the table takes stack only where it is used.
+#[inline(never)]
 fn grow_in<const SETS: usize, const SLOTS: usize>(pending: &Pending<'_>) -> u64
     requires { (row_count_of pending.now.image.now < SETS) × (SETS < 65536) × (1 ≤ SLOTS) × (SLOTS < 65536) }
     ensures { result ≡ by_hitting_set (system_of pending.now.image.now) (rows_of pending.now.image.now) (held_in pending.now.blockers.now)

@@ -12,7 +12,7 @@ ghost use Rattle.printing.specs.Steps.{Ready};
 ghost use Rattle.printing.specs.Putting.{events_in, event_lines, PutsEvents};
 
 use crate::steps::{accept, fill, run_through, step_through};
-use automata::image::{Image, read_image};
+use automata::image::{Image, Symbol, read_image};
 use automata::refusal::Refusal;
 use automata::word::{symbols_below, taken_back};
 use writing::put_line;
@@ -30,11 +30,12 @@ fn put_lines(word: &[u8], table: &[u64], room: &mut [u8], start: usize, limit: u
     ensures { Puts (event_lines (events_in word.now table.now)) start limit result room.old room.new }
 {
     let mut end = start;
-    for (i, &symbol) in word.iter().enumerate() {
+    for (i, s) in word.iter().enumerate() {
+        let symbol = Symbol(*s);
         if limit < end {
             return end;
         }
-        end = put_line(room, end, limit, &[u64::from(symbol), table[i]]);
+        end = put_line(room, end, limit, &[u64::from(symbol.0), table[i]]);
     }
     end
 }

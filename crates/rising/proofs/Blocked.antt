@@ -1,5 +1,5 @@
 -- Whether a blocker rises, by whether each of its backward sets is blocked. Assumes nothing.
-use Prim.Native.Nat.{ℕ, ◌≤◌, ◌<◌}
+use Prim.Native.Nat.{ℕ, ◌+◌, ◌≤◌, ◌<◌}
 use mathlib.Core.Path.{◌≡◌, sym, ◌∙◌}
 use mathlib.Core.Bool.{Bool, true, false, not}
 use mathlib.Core.List.{List}
@@ -12,7 +12,7 @@ use Rattle.automata.specs.Automaton.{backward}
 use Rattle.automata.specs.declared.image.Head.{Head}
 use Rattle.automata.specs.Answers.{ReadAs}
 use Rattle.automata.proofs.Reading.{head_initial}
-use Rattle.automata.proofs.EachSymbol.{EachTried, each_fails, each_ends}
+use Rattle.automata.proofs.EachSymbol.{EachTried, each_goes, each_fails, each_ends}
 use Rattle.machine.specs.System.{System}
 use Rattle.machine.specs.Machine.{Blocker, blocked, rises}
 use Rattle.machine.specs.Runs.{system_of}
@@ -22,6 +22,13 @@ pub rise_other : (S : System) (table : List Blocker) (level : ℕ) (blocker : Bl
     → other ≡ true → false ≡ rises S table level blocker
 unfolding rises ◌and◌
 rise_other S table level blocker other e n = sym (rw (not-true _ (sym e ∙ n)))
+
+-- the test of the blocker's backward sets goes on behind one that is blocked
+module _ (image : List ℕ) (table : List Blocker) (level mask : ℕ) {head : Head} (read : ReadAs image head) (symbols s : ℕ)
+    (tried : EachTried image (blocked head.initial table level) mask symbols s) (P : ℕ) (told : Bool) (l : s < symbols)
+    (back : P ≡ backward (rows_of image s) mask) (is_blocked : told ≡ blocked head.initial table level P) where
+  pub rise_goes : not told ≡ false → EachTried image (blocked head.initial table level) mask symbols (s + 1)
+  rise_goes n = each_goes tried P told l back is_blocked n
 
 -- the walk over the symbols that asks whether all backward sets are blocked
 module _ (image : List ℕ) (table : List Blocker) (level : ℕ) (blocker : Blocker) {head : Head} (read : ReadAs image head) (symbols s : ℕ)

@@ -95,12 +95,15 @@ fn regather<const N: usize>(index: &mut Index<N>, blockers: &Blockers<'_>, level
     }
 }
 
-// The rises at each level from 1 to `top`, one level after another, by an index of N places that is gathered anew every so many levels.
+// The rises at each level from 1 to `top`, one level after another, by an index of N places that is gathered anew every so many levels. Not inlined, so
+// that the index takes stack only where it is used.
+#[inline(never)]
 fn rise_levels<const N: usize>(image: &Image<'_>, masks: &[u64], levels: &mut [u32], top: Level)
     requires { (length masks.now ≤ length levels.old) × (top.0 < 4294967295) × (N ≤ 4096) }
     ensures { AllRisen (system_of image.now) top.0 (length masks.now) masks.now levels.old levels.new }
 {
-    let lacks = Lacks::<'_, N>::note(masks);
+    let mut lacks = Lacks::<'_, N>::new();
+    lacks.gather(masks);
     let mut index = Index::<N>::new();
     let every = top.0 / sizes::GATHERINGS + 1;
     for number in 1..=top.0 {

@@ -6,8 +6,8 @@ pub loop-number-preserved : goal.loop-number-preserved
 loop-number-preserved g c = indexed_goes c.loop-number.invariant (search rules) c.regather.ensures c.rise_level.ensures (search rules)
 
 pub returns : goal.returns
-returns g c = indexed_ends c.loop-number.invariant (search rules) c.note-lacks.ensures
+returns g c = indexed_ends c.loop-number.invariant (search rules) c.gather.ensures
 
 pub returns-2 : goal.returns-2
 returns-2 g c =
-    indexed_ends (indexed_goes c.loop-number.invariant (search rules) c.regather.ensures c.rise_level.ensures (search rules)) (search rules) c.note-lacks.ensures
+    indexed_ends (indexed_goes c.loop-number.invariant (search rules) c.regather.ensures c.rise_level.ensures (search rules)) (search rules) c.gather.ensures

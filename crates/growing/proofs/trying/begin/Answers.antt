@@ -5,8 +5,8 @@ use Rattle.growing.proofs.trying.begin.Goals as goal
 pub loop-s-init : goal.loop-s-init
 loop-s-init c = search (first_starts, rules)
 
-pub bounds-lists-symbol : goal.bounds-lists-symbol
-bounds-lists-symbol c = search (symbol_within, rules)
+pub bounds-lists-place : goal.bounds-lists-place
+bounds-lists-place c = search (symbol_within, rules)
 
 pub is_settled-requires : goal.is_settled-requires
 is_settled-requires c = search (first_told, rules)

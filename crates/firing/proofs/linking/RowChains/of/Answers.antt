@@ -1,12 +1,6 @@
 use borrow.Author.Rules.{rules}
-use Rattle.firing.proofs.Chaining.{rows_start, rows_go, rows_all}
+use Rattle.firing.proofs.Chaining.{cleared_linked}
 use Rattle.firing.proofs.linking.RowChains.of.Goals as goal
 
-pub loop-symbol-init : goal.loop-symbol-init
-loop-symbol-init g c = search (rows_start, rules)
-
-pub loop-symbol-preserved : goal.loop-symbol-preserved
-loop-symbol-preserved g c = search (rows_go, rules)
-
-pub returns : goal.returns
-returns g c = search (rows_all, rules)
+pub link_rows-requires : goal.link_rows-requires
+link_rows-requires g c = search (cleared_linked, rules)

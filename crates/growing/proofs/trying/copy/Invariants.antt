@@ -1,0 +1,5 @@
+use Rattle.growing.specs.Kept.{Copied}
+use Rattle.growing.proofs.trying.copy.Given as goal
+
+abbrev pub invariant-loop-i : goal.invariant-loop-i
+invariant-loop-i l = Copied l.i l.from l.to
