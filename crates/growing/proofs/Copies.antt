@@ -1,5 +1,5 @@
 -- The copy of the first sets of one table into another. Assumes nothing.
-use Prim.Native.Nat.{ℕ, ◌+◌, ◌≤◌, ◌<◌}
+use Prim.Native.Nat.{ℕ, ◌+◌, ◌*◌, ◌/◌, ◌≤◌, ◌<◌}
 use mathlib.Core.Path.{◌≡◌, ◌∙◌}
 use mathlib.Core.List.{List}
 use native.Mathlib.Decide.{ℕ_discrete}
@@ -24,5 +24,13 @@ module _ {from to : List ℕ} {i : ℕ} (so_far : Copied i from to) where
       at j k (yes e) = rw e (get_or-set_same to i (get_or from i 0) 0 (omega (arith, so_far.long)))
       at j k (no n) = get_or-set_other to i j (get_or from i 0) 0 n ∙ so_far.same j (omega arith)
 
-  pub copy_ends : {count : ℕ} → count ≤ i → Copied count from to
+  copy_ends : {count : ℕ} → count ≤ i → Copied count from to
   copy_ends l = record { same = λ j k. so_far.same j (omega arith); long = so_far.long }
+
+-- two of them, and what is copied at the end
+pub copy_two : {from to : List ℕ} (i : ℕ) → Copied (2 * i) from to → 2 * i + 1 < 64
+    → Copied (2 * (i + 1)) from (set (set to (2 * i) (get_or from (2 * i) 0)) (2 * i + 1) (get_or from (2 * i + 1) 0))
+copy_two i so_far l = copy_ends (copy_goes (copy_goes so_far (omega (arith, l))) l) (omega arith)
+
+pub copied_all : {from to : List ℕ} (count i : ℕ) → Copied (2 * i) from to → (count + 1) / 2 ≤ i → Copied count from to
+copied_all count i so_far l = copy_ends so_far (omega (arith, l))
