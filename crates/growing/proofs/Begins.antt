@@ -69,7 +69,8 @@ unfolding first_place
 place_above zero bottom e f = absurd (eqb-false 0 0 (sym e ∙ f) refl)
 place_above (suc below) bottom e f = refl
 
-first_bottom : (below : ℕ) {first : Option ℕ} → first ≡ first_place below → below ≡ 0 → first ≡ None
+-- at level 0 there is none
+pub first_bottom : (below : ℕ) {first : Option ℕ} → first ≡ first_place below → below ≡ 0 → first ≡ None
 unfolding first_place
 first_bottom zero e z = e
 first_bottom (suc below) e z = absurd (omega (arith, z))
@@ -88,9 +89,9 @@ pub record FirstSets (pending : Pending) (bound s : ℕ) (grown : Grown) (lists 
       → T (Machine.settled (initial_of pending.image.now) (held_in pending.blockers.now) pending.below.0 pending.x (backward (rows_of pending.image.now t) pending.x))
 
 pub first_starts : {pending : Pending} {head : Head} {grown : Grown} {near : List ℕ} (ends : List (Option ℕ)) → ReadAs pending.image.now head
-    → grown.set ≡ pending.x → length grown.sets ≡ 64 → length grown.next ≡ 64 → length ends ≡ 65 → (first : Option ℕ) → first ≡ first_place pending.below.0
+    → grown.set ≡ pending.x → length grown.sets ≡ 64 → length grown.next ≡ 64 → length ends ≡ 65 → (first : Option ℕ) → (pending.below.0 ≡ 0 → first ≡ None)
     → FirstSets pending head.symbols 0 grown (record { near = near; ends = set ends 0 first })
-first_starts {pending} ends read begun sets_long next_long ends_long first is =
+first_starts {pending} ends read begun sets_long next_long ends_long first bottom =
     let few = (valid_kept pending.image.now read.valid).symbols_fit in
     let zeroth : get_or (set ends 0 first) 0 None ≡ first = get_or-set_same ends 0 first None (omega arith) in
     record {
@@ -101,7 +102,7 @@ first_starts {pending} ends read begun sets_long next_long ends_long first is =
         ends_fit = omega (arith, few, length-set ends 0 first);
       };
       begun = begun;
-      bottom = λ z. zeroth ∙ first_bottom pending.below.0 is z;
+      bottom = λ z. zeroth ∙ bottom z;
       ahead = λ t l. let e : t ≡ 0 = omega arith in rw e (up_to_same _);
       are = λ t l. absurd (omega arith);
       tells = λ t l. absurd (omega arith);
