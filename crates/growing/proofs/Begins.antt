@@ -69,11 +69,10 @@ unfolding first_place
 place_above zero bottom e f = absurd (eqb-false 0 0 (sym e ∙ f) refl)
 place_above (suc below) bottom e f = refl
 
--- at level 0 there is none
+-- at level 0 it begins nowhere
 pub first_bottom : (below : ℕ) {first : Option ℕ} → first ≡ first_place below → below ≡ 0 → first ≡ None
 unfolding first_place
-first_bottom zero e z = e
-first_bottom (suc below) e z = absurd (omega (arith, z))
+first_bottom below e z = e ∙ ap first_place z
 
 -- the first sets and lists, before symbol s
 pub record FirstSets (pending : Pending) (bound s : ℕ) (grown : Grown) (lists : Lists) : Type 0 where
